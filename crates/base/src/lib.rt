@@ -1,0 +1,1 @@
+// Laws that every crate may cite; no code.

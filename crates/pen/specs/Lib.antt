@@ -1,0 +1,4 @@
+pub mod Lists
+pub mod Put
+pub mod Wrote
+pub mod Times

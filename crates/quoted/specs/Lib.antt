@@ -1,0 +1,3 @@
+pub mod Classes
+pub mod Escapes
+pub mod CleanRun
