@@ -1,0 +1,51 @@
+-- What the C interface tells of an answer: its number, its length and, of a reading, its form.
+use mathlib.Core.Path.{_≡_, refl, sym, ap, subst, _∙_}
+use mathlib.Core.Option.{Option, none, some}
+use mathlib.Core.List.{List}
+use Prim.Native.Nat.{ℕ}
+use Rattle.meaning.specs.Reading.{Form, quotedForm, blockForm}
+use Rattle.meaning.specs.Answers.{Answer, readingAnswer, formRead}
+use Rattle.meaning.specs.Entries.{Outcome}
+use Rattle.meaning.specs.declared.Form.{Form as DeclaredForm}
+use Rattle.meaning.specs.declared.Offset.{Offset}
+use Rattle.meaning.specs.declared.Refusal.{Refusal}
+use Rattle.meaning.specs.declared.Reading.{Reading}
+use Rattle.meaning.specs.declared.Reading.the-variants.{Value, Refused as NotRead}
+
+-- 0 for none, 1 quoted, 2 block
+abbrev pub formNumber : Option Form → ℕ
+formNumber none = 0
+formNumber (some quotedForm) = 1
+formNumber (some blockForm) = 2
+
+-- the result, the length and the output after the call are those of the outcome
+pub record Told (o : Outcome) (n l : ℕ) (d : List ℕ) : Type 0 where
+  pub number : n ≡ o .0 .number
+  pub length : l ≡ o .0 .length
+  pub output : d ≡ o .1
+
+pub record ToldForm (o : Answer × Option Form × List ℕ) (n l f : ℕ) (d : List ℕ) : Type 0 where
+  pub number : n ≡ o .0 .number
+  pub length : l ≡ o .0 .length
+  pub form : f ≡ formNumber (o .1)
+  pub output : d ≡ o .2
+
+pub told-by : {o : Outcome} {a : Answer} {d : List ℕ} {n l : ℕ} → o ≡ (a, d) → n ≡ a .number → l ≡ a .length → Told o n l d
+told-by {o} {a} {d} {n} {l} e f g =
+    subst (λ (x : Outcome). Told x n l d) (sym e) (record { number = f; length = g; output = refl })
+
+pub told-form-by : {o : Answer × Option Form × List ℕ} {a : Answer} {m : Option Form} {d : List ℕ} {n l f : ℕ} → (a, m, d) ≡ o → n ≡ a .number → l ≡ a .length → f ≡ formNumber m → ToldForm o n l f d
+told-form-by {o} {a} {m} {d} {n} {l} {f} e p q r =
+    subst (λ (x : Answer × Option Form × List ℕ). ToldForm x n l f d) e (record { number = p; length = q; form = r; output = refl })
+
+-- a reading that was refused, and one with a value
+module _ {o : Answer × Option Form × List ℕ} {r : Reading} {d : List ℕ} (e : (readingAnswer r .0, readingAnswer r .1, d) ≡ o) where
+  pub told-refusal : {w : Refusal} {n l : ℕ} → r ≡ NotRead w → n ≡ readingAnswer r .0 .number → l ≡ readingAnswer r .0 .length → ToldForm o n l 0 d
+  told-refusal {w} {n} {l} p f g = told-form-by e f g (sym (ap (λ (x : Reading). formNumber (readingAnswer x .1)) p))
+
+  pub told-value : {f : DeclaredForm} {m : Offset} {k : ℕ} → r ≡ Value f m → k ≡ formNumber (some (formRead f)) → ToldForm o 0 (m .0) k d
+  told-value {f} {m} {k} p g =
+      told-form-by e
+      (sym (ap (λ (x : Reading). readingAnswer x .0 .number) p))
+      (sym (ap (λ (x : Reading). readingAnswer x .0 .length) p))
+      (g ∙ sym (ap (λ (x : Reading). formNumber (readingAnswer x .1)) p))

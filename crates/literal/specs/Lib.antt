@@ -1,0 +1,4 @@
+pub mod Blanks
+pub mod Faults
+pub mod Chosen
+pub mod Printing

@@ -1,0 +1,13 @@
+pub mod Unescaped
+pub mod Closing
+pub mod FirstLine
+pub mod LinesUnescaped
+pub mod Outdented
+pub mod TrimmedFront
+pub mod TrimmedEnd
+pub mod LeastIndent
+pub mod Text
+pub mod Short
+pub mod Value
+pub mod Plain
+pub mod Counts

@@ -1,0 +1,5 @@
+pub mod Encodings
+pub mod Escapes
+pub mod Runs
+pub mod Walks
+pub mod Outcomes

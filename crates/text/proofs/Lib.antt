@@ -1,0 +1,4 @@
+pub mod Ones
+pub mod Ends
+pub mod Bits
+pub mod Places

@@ -1,0 +1,88 @@
+/*
+ * One GraphQL string literal, printed and read in memory that the caller lends.
+ *
+ * Link libgateway.a, which `rt staticlib gateway` proves and writes to target/staticlib. It is for x86-64.
+ *
+ * Both functions answer 0 on success and otherwise the number of a refusal. No refusal changes a byte of the output; a
+ * success changes no byte past the length that it reports. Both report at `length`
+ *   - on success the length written,
+ *   - on DERVISCLO_ROOM the length that is needed, exactly, whatever the length of the output,
+ *   - on any other refusal 0.
+ * So a call with an output of length 0 measures. More room never alters what is written.
+ *
+ * The lowest number that applies is answered, and DERVISCLO_ROOM only if no other does.
+ *
+ * What the caller owes: each pointer to bytes points to as many as the length beside it says (a pointer whose length
+ * is 0 may be null); `length` and `form` point to numbers and are not null; what may be written overlaps nothing else
+ * that is passed; no length is over PTRDIFF_MAX. Nothing is asked of what the bytes are.
+ */
+#ifndef DERVISCLO_H
+#define DERVISCLO_H
+
+#include <stddef.h>
+#include <stdint.h>
+
+#ifdef __cplusplus
+extern "C" {
+#endif
+
+/* Answers. */
+#define DERVISCLO_SUCCESS 0u
+/* The prefix is over 16 bytes or has a byte other than space and tab; the level is over 128; description or breaks is
+   neither 0 nor 1. */
+#define DERVISCLO_SETTINGS 1u
+/* The value is over 65,536 bytes. */
+#define DERVISCLO_SIZE 2u
+/* The value is not UTF-8. */
+#define DERVISCLO_TEXT 7u
+/* The output is shorter than the text, or value, to be written. */
+#define DERVISCLO_ROOM 8u
+/* The text to be read is not UTF-8 or not exactly one StringValue of the GraphQL specification. */
+#define DERVISCLO_LITERAL 9u
+
+/* Forms of a literal: "abc" or """abc""". */
+#define DERVISCLO_QUOTED 1u
+#define DERVISCLO_BLOCK 2u
+
+/*
+ * Prints value[0 .. value_len] as one literal to the start of out.
+ *
+ * It takes block form exactly where breaks are on, the value is a description or holds a line feed, and block text can
+ * stand for it; otherwise it is quoted. After each line feed the prefix is written once per level, except on empty
+ * lines. The first line is not indented.
+ *
+ *   value, value_len    any UTF-8 of up to 65,536 bytes
+ *   description         1 for a description, 0 for any other string
+ *   breaks              1 for line breaks on, 0 for off; off, prefix and level are checked all the same
+ *   prefix, prefix_len  up to 16 spaces and tabs
+ *   level               up to 128
+ *   out, out_len        the output
+ *   length              where the length is reported
+ *
+ * Answers DERVISCLO_SUCCESS, DERVISCLO_SETTINGS, DERVISCLO_SIZE, DERVISCLO_TEXT or DERVISCLO_ROOM.
+ */
+uint32_t dervisclo_print_literal(const uint8_t *value, size_t value_len, uint32_t description, uint32_t breaks,
+                                 const uint8_t *prefix, size_t prefix_len, uint64_t level, uint8_t *out, size_t out_len,
+                                 uint64_t *length);
+
+/*
+ * Reads text[0 .. text_len], which is to be one literal with nothing around it, and writes its value to the start of
+ * out.
+ *
+ *   text, text_len  any bytes, of any number
+ *   out, out_len    the output; a value is never longer than its literal
+ *   length          where the length is reported
+ *   form            where DERVISCLO_QUOTED or DERVISCLO_BLOCK is reported on success, and 0 on a refusal
+ *
+ * What dervisclo_print_literal printed reads back as exactly the value that it was printed from.
+ *
+ * Answers DERVISCLO_SUCCESS, DERVISCLO_ROOM or DERVISCLO_LITERAL.
+ */
+uint32_t dervisclo_read_literal(const uint8_t *text, size_t text_len, uint8_t *out, size_t out_len, uint64_t *length,
+                                uint32_t *form);
+
+#ifdef __cplusplus
+}
+#endif
+
+#endif

@@ -1,0 +1,108 @@
+//! The two C functions as the runs call them: with any numbers, and with everything that they report.
+
+use dervisclo::c;
+use oracle::Settings;
+use std::ptr;
+
+/// What printing is given beside the output.
+#[derive(Clone, Copy)]
+pub struct Print<'a> {
+    pub value: &'a [u8],
+    pub description: u32,
+    pub breaks: u32,
+    pub prefix: &'a [u8],
+    pub level: u64,
+}
+
+impl<'a> Print<'a> {
+    pub fn new(value: &'a [u8], is_description: bool, settings: &'a Settings) -> Self {
+        Self {
+            value,
+            description: u32::from(is_description),
+            breaks: u32::from(settings.breaks),
+            prefix: settings.prefix.as_bytes(),
+            level: settings.level as u64,
+        }
+    }
+}
+
+/// The result, and what the call left behind `length` and `form`.
+#[derive(Clone, Copy, Debug, Eq, PartialEq)]
+pub struct Answer {
+    pub number: u32,
+    pub length: u64,
+    /// Of reading only.
+    pub form: u32,
+}
+
+/// What stands behind `length` and `form` before a call: no answer has it.
+const UNWRITTEN: u32 = 0x5555_5555;
+
+/// How an empty slice is passed.
+#[derive(Clone, Copy, Debug, Eq, PartialEq)]
+pub enum Empty {
+    /// As Rust has it: a pointer to no byte.
+    Dangling,
+    Null,
+}
+
+impl Empty {
+    fn pointer(self, bytes: &[u8]) -> *const u8 {
+        match self {
+            Empty::Null if bytes.is_empty() => ptr::null(),
+            _ => bytes.as_ptr(),
+        }
+    }
+
+    fn pointer_mut(self, bytes: &mut [u8]) -> *mut u8 {
+        match self {
+            Empty::Null if bytes.is_empty() => ptr::null_mut(),
+            _ => bytes.as_mut_ptr(),
+        }
+    }
+}
+
+pub fn print(print: &Print<'_>, empty: Empty, out: &mut [u8]) -> Answer {
+    let mut length = u64::from(UNWRITTEN);
+    // SAFETY: each pointer comes with the length of the slice behind it, and is null only where that is 0.
+    let number = unsafe {
+        c::dervisclo_print_literal(
+            empty.pointer(print.value),
+            print.value.len(),
+            print.description,
+            print.breaks,
+            empty.pointer(print.prefix),
+            print.prefix.len(),
+            print.level,
+            empty.pointer_mut(out),
+            out.len(),
+            &mut length,
+        )
+    };
+    Answer {
+        number,
+        length,
+        form: 0,
+    }
+}
+
+pub fn read(text: &[u8], empty: Empty, out: &mut [u8]) -> Answer {
+    let mut length = u64::from(UNWRITTEN);
+    let mut form = UNWRITTEN;
+    // SAFETY: as above.
+    let number = unsafe {
+        c::dervisclo_read_literal(
+            empty.pointer(text),
+            text.len(),
+            empty.pointer_mut(out),
+            out.len(),
+            &mut length,
+            &mut form,
+        )
+    };
+    Answer {
+        number,
+        length,
+        form,
+    }
+}

@@ -1,0 +1,43 @@
+//! The C interface, as `include/dervisclo.h` has it. The safe functions of this crate are the way to use it from Rust.
+
+unsafe extern "C" {
+    /// Prints one literal. Answers document 01's number: 0, or the refusal 1, 2, 7 or 8.
+    ///
+    /// `description` and `breaks` are 0 or 1; any other number is refused with 1. `length` receives the length written
+    /// on 0, the needed length on 8, and 0 on any other refusal.
+    ///
+    /// # Safety
+    ///
+    /// `value`, `prefix` and `out` each point to as many bytes as the length beside them says, `out` to bytes that may
+    /// be written; a pointer whose length is 0 may be null. `length` points to a number that may be written. What may
+    /// be written overlaps nothing else. No length is over `isize::MAX`.
+    pub fn dervisclo_print_literal(
+        value: *const u8,
+        value_len: usize,
+        description: u32,
+        breaks: u32,
+        prefix: *const u8,
+        prefix_len: usize,
+        level: u64,
+        out: *mut u8,
+        out_len: usize,
+        length: *mut u64,
+    ) -> u32;
+
+    /// Reads one literal. Answers document 01's number: 0, or the refusal 9 or 8.
+    ///
+    /// `length` is as in printing. `form` receives 1 for quoted or 2 for block on 0, and 0 on a refusal.
+    ///
+    /// # Safety
+    ///
+    /// As for printing: `text` and `out` point to as many bytes as their lengths say, `length` and `form` to numbers
+    /// that may be written, and what may be written overlaps nothing else.
+    pub fn dervisclo_read_literal(
+        text: *const u8,
+        text_len: usize,
+        out: *mut u8,
+        out_len: usize,
+        length: *mut u64,
+        form: *mut u32,
+    ) -> u32;
+}
