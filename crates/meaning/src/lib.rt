@@ -1,7 +1,7 @@
 // The numbers and answers that every crate shares. What they mean is in specs/.
 
 // The number of a node of the table.
-pub struct NodeNumber(pub u32);
+pub struct NodeNumber(pub usize);
 
 // A place in a pool or an output, or a number of bytes there.
 pub struct Offset(pub usize);

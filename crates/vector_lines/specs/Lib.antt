@@ -1,0 +1,4 @@
+pub mod Parts
+pub mod Hex
+pub mod Numbers
+pub mod Throughout
