@@ -1,10 +1,10 @@
 /*
- * One GraphQL string literal, printed and read in memory that the caller lends.
+ * One GraphQL string literal, printed and read in memory that the caller lends, and the check of a node table.
  *
  * Link libgateway.a, which `rt staticlib gateway` proves and writes to target/staticlib. It is for x86-64.
  *
- * Both functions answer 0 on success and otherwise the number of a refusal. No refusal changes a byte of the output; a
- * success changes no byte past the length that it reports. Both report at `length`
+ * All functions answer 0 on success and otherwise the number of a refusal. The two of literals: no refusal changes a
+ * byte of the output; a success changes no byte past the length that it reports. Both report at `length`
  *   - on success the length written,
  *   - on DERVISCLO_ROOM the length that is needed, exactly, whatever the length of the output,
  *   - on any other refusal 0.
@@ -12,9 +12,10 @@
  *
  * The lowest number that applies is answered, and DERVISCLO_ROOM only if no other does.
  *
- * What the caller owes: each pointer to bytes points to as many as the length beside it says (a pointer whose length
- * is 0 may be null); `length` and `form` point to numbers and are not null; what may be written overlaps nothing else
- * that is passed; no length is over PTRDIFF_MAX. Nothing is asked of what the bytes are.
+ * What the caller owes: each pointer to bytes or words points to as many as the length beside it says (a pointer whose
+ * length is 0 may be null); `length`, `form` and `place` point to numbers and are not null; what may be written
+ * overlaps nothing else that is passed; no slice is over PTRDIFF_MAX bytes. Nothing is asked of what the bytes and
+ * words are.
  */
 #ifndef DERVISCLO_H
 #define DERVISCLO_H
@@ -31,9 +32,19 @@ extern "C" {
 /* The prefix is over 16 bytes or has a byte other than space and tab; the level is over 128; description or breaks is
    neither 0 nor 1. */
 #define DERVISCLO_SETTINGS 1u
-/* The value is over 65,536 bytes. */
+/* The value is over 65,536 bytes. Of a table: the words are not a multiple of 5, there is no node, there are over 8,192
+   nodes, or the pool is over 65,536 bytes. */
 #define DERVISCLO_SIZE 2u
-/* The value is not UTF-8. */
+/* Unknown kind or variant; text outside the pool; length 0 with start not 0; text where none is allowed; end not above
+   its own number or past the table; node 0 not a Document ending the table; kind 0 elsewhere. */
+#define DERVISCLO_NODE 3u
+/* A later node inside this subtree ends after it. */
+#define DERVISCLO_NESTING 4u
+/* The node is deeper than 64. */
+#define DERVISCLO_DEPTH 5u
+/* The node's children are not as its kind lists them, or it is a Variable below a kind 3 to 17 or 21. */
+#define DERVISCLO_CHILDREN 6u
+/* The value is not UTF-8. Of a table: the node's text is not a name, number or UTF-8 as its kind asks. */
 #define DERVISCLO_TEXT 7u
 /* The output is shorter than the text, or value, to be written. */
 #define DERVISCLO_ROOM 8u
@@ -80,6 +91,20 @@ uint32_t dervisclo_print_literal(const uint8_t *value, size_t value_len, uint32_
  */
 uint32_t dervisclo_read_literal(const uint8_t *text, size_t text_len, uint8_t *out, size_t out_len, uint64_t *length,
                                 uint32_t *form);
+
+/*
+ * Checks a node table. Nothing but the place is written.
+ *
+ *   words, words_len  five words a node, in preorder: kind, variant, text start, text length, end
+ *   pool, pool_len    the bytes that the nodes' texts lie in; those that no node names never matter
+ *   place             where the node is reported: on DERVISCLO_NODE to DERVISCLO_TEXT the smallest node with the fault
+ *                     that is answered, otherwise 0
+ *
+ * Answers DERVISCLO_SUCCESS, DERVISCLO_SIZE, DERVISCLO_NODE, DERVISCLO_NESTING, DERVISCLO_DEPTH, DERVISCLO_CHILDREN or
+ * DERVISCLO_TEXT.
+ */
+uint32_t dervisclo_check_table(const uint32_t *words, size_t words_len, const uint8_t *pool, size_t pool_len,
+                               uint64_t *place);
 
 #ifdef __cplusplus
 }

@@ -4,11 +4,13 @@ use mathlib.Core.Option.{Option, none, some}
 use mathlib.Core.List.{List}
 use Prim.Native.Nat.{ℕ}
 use Rattle.meaning.specs.Reading.{Form, quotedForm, blockForm}
-use Rattle.meaning.specs.Answers.{Answer, readingAnswer, formRead}
+use Rattle.meaning.specs.Answers.{Answer, refusalAnswer, checkedAnswer, readingAnswer, formRead}
 use Rattle.meaning.specs.Entries.{Outcome}
 use Rattle.meaning.specs.declared.Form.{Form as DeclaredForm}
 use Rattle.meaning.specs.declared.Offset.{Offset}
 use Rattle.meaning.specs.declared.Refusal.{Refusal}
+use Rattle.meaning.specs.declared.Checked.{Checked}
+use Rattle.meaning.specs.declared.Checked.the-variants.{Accepted, Refused as NotAccepted}
 use Rattle.meaning.specs.declared.Reading.{Reading}
 use Rattle.meaning.specs.declared.Reading.the-variants.{Value, Refused as NotRead}
 
@@ -49,3 +51,15 @@ module _ {o : Answer × Option Form × List ℕ} {r : Reading} {d : List ℕ} (e
       (sym (ap (λ (x : Reading). readingAnswer x .0 .number) p))
       (sym (ap (λ (x : Reading). readingAnswer x .0 .length) p))
       (g ∙ sym (ap (λ (x : Reading). formNumber (readingAnswer x .1)) p))
+
+-- a table's answer: its number and its place
+pub record ToldPlace (a : Answer) (n i : ℕ) : Type 0 where
+  pub number : n ≡ a .number
+  pub place : i ≡ a .place
+
+module _ {a : Answer} {c : Checked} (e : checkedAnswer c ≡ a) where
+  pub told-accepted : c ≡ Accepted → ToldPlace a 0 0
+  told-accepted p = subst (λ (x : Answer). ToldPlace x 0 0) (sym (ap checkedAnswer p) ∙ e) (record { number = refl; place = refl })
+
+  pub told-place : {w : Refusal} {n i : ℕ} → c ≡ NotAccepted w → n ≡ refusalAnswer w .number → i ≡ refusalAnswer w .place → ToldPlace a n i
+  told-place {w} {n} {i} p f g = subst (λ (x : Answer). ToldPlace x n i) (sym (ap checkedAnswer p) ∙ e) (record { number = f; place = g })

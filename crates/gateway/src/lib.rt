@@ -2,8 +2,8 @@
 ghost use mathlib.Core.Path.{_≡_};
 ghost use mathlib.Core.Option.{some};
 ghost use Rattle.meaning.specs.Answers.{refusalAnswer, printedAnswer, readingAnswer, formRead};
-ghost use Rattle.meaning.specs.Entries.{printedLiteralByNumbers, readLiteral};
-ghost use Rattle.gateway.specs.Numbers.{formNumber, Told, ToldForm};
+ghost use Rattle.meaning.specs.Entries.{printedLiteralByNumbers, readLiteral, checkedTable};
+ghost use Rattle.gateway.specs.Numbers.{formNumber, Told, ToldForm, ToldPlace};
 
 fn number(r: meaning::Refusal) -> u32
     ensures { λ n. ⌜ n ≡ refusalAnswer r .number ⌝ }
@@ -18,6 +18,28 @@ fn number(r: meaning::Refusal) -> u32
         meaning::Refusal::Text(_) => 7,
         meaning::Refusal::Room(_) => 8,
         meaning::Refusal::Literal => 9,
+    }
+}
+
+fn node(i: meaning::NodeNumber) -> u64
+    ensures { λ n. ⌜ n ≡ i .0 ⌝ }
+{
+    i.0 as u64
+}
+
+fn place_of(r: meaning::Refusal) -> u64
+    ensures { λ n. ⌜ n ≡ refusalAnswer r .place ⌝ }
+{
+    match r {
+        meaning::Refusal::Settings => 0,
+        meaning::Refusal::Size => 0,
+        meaning::Refusal::Node(i) => node(i),
+        meaning::Refusal::Nesting(i) => node(i),
+        meaning::Refusal::Depth(i) => node(i),
+        meaning::Refusal::Children(i) => node(i),
+        meaning::Refusal::Text(i) => node(i),
+        meaning::Refusal::Room(_) => 0,
+        meaning::Refusal::Literal => 0,
     }
 }
 
@@ -133,4 +155,18 @@ pub extern "C" fn dervisclo_read_literal(
     *length = n.0 as u64;
     *form = form_number(found);
     0
+}
+
+// The lowest refusal of a table, and its place; 0 where it is accepted.
+#[no_mangle]
+pub extern "C" fn dervisclo_check_table(words: &[u32], pool: &[u8], place: &mut u64) -> u32
+    ensures { λ r. ⌜ ToldPlace (checkedTable (now (words .entry)) (now (pool .entry))) r (now (place .exit)) ⌝ }
+{
+    let answer = check_table::check_table(words, pool);
+    let meaning::Checked::Refused(why) = answer else {
+        *place = 0;
+        return 0;
+    };
+    *place = place_of(why);
+    number(why)
 }

@@ -116,19 +116,34 @@ fn past_plain(s: &[u8], i: usize) -> usize
     j
 }
 
+// Passes over all bytes that are no marks.
+fn next_mark(s: &[u8], i: usize) -> usize
+    requires { ⌜ i ≤ length (now s) ⌝ }
+    ensures { λ r. ⌜ Plain (now (s .entry)) i r ⌝ }
+{
+    let mut j = past_plain(s, i);
+    while j < s.len() {
+        if is_mark(s[j]) {
+            return j;
+        }
+        j += 1;
+    }
+    j
+}
+
 // The first three quotes that are not escaped are the last three bytes.
 fn is_closed(s: &[u8]) -> bool
     ensures { λ r. ⌜ r ≡ closed (now (s .entry)) ⌝ }
 {
-    let mut i = past_plain(s, 0);
+    let mut i = next_mark(s, 0);
     while i < s.len() {
         if three_quotes(s, i) {
             return i + 3 == s.len();
         }
         if is_escape(s, i) {
-            i = past_plain(s, i + 4);
+            i = next_mark(s, i + 4);
         } else {
-            i = past_plain(s, i + 1);
+            i = next_mark(s, i + 1);
         }
     }
     false

@@ -8,7 +8,7 @@ use native.Mathlib.Numerals.{add-one}
 use native.Mathlib.Omega.{arith}
 use lib.Dec.{eqb}
 use lib.ListN.{length, take, drop, getD, length-drop}
-use lib.Seq.{drop-drop, getD-drop, take-suc, take-add}
+use lib.Seq.{drop-cons, drop-drop, getD-drop, take-suc, take-add}
 use Rattle.base.specs.Bools.{or-left-false, or-right-false, or-both-false}
 use Rattle.meaning.specs.Ascii.{lineFeed, carriageReturn, quote, backslash}
 use Rattle.literal_laws.specs.Quotes.{no-quote-no-three}
@@ -135,6 +135,11 @@ plain-further s i j k p h e =
       within = h;
       none = rw (n, take-add (j - i) k (drop i s), two, d, p .none) e;
     }
+
+pub plain-one-further : (s : List ℕ) (i j : ℕ) → Plain s i j → j < length s → isMark (getD s j 0) ≡ false → Plain s i (j + 1)
+plain-one-further s i j p h e =
+    let one : take 1 (drop j s) ≡ getD s j 0 ∷ [] = rw (drop-cons s j 0 h) in
+    plain-further s i j 1 p (omega arith) (rw one (one-byte (getD s j 0) ∙ e))
 
 module _ (s : List ℕ) (i j : ℕ) (p : Plain s i j) where
   short : j - i ≤ length (drop i s)

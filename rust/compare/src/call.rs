@@ -1,4 +1,4 @@
-//! The two C functions as the runs call them: with any numbers, and with everything that they report.
+//! The three C functions as the runs call them: with any numbers, and with everything that they report.
 
 use dervisclo::c;
 use oracle::Settings;
@@ -47,10 +47,10 @@ pub enum Empty {
 }
 
 impl Empty {
-    fn pointer(self, bytes: &[u8]) -> *const u8 {
+    fn pointer<T>(self, slice: &[T]) -> *const T {
         match self {
-            Empty::Null if bytes.is_empty() => ptr::null(),
-            _ => bytes.as_ptr(),
+            Empty::Null if slice.is_empty() => ptr::null(),
+            _ => slice.as_ptr(),
         }
     }
 
@@ -105,4 +105,26 @@ pub fn read(text: &[u8], empty: Empty, out: &mut [u8]) -> Answer {
         length,
         form,
     }
+}
+
+/// What checking a table answers: the number, and what the call left behind `place`.
+#[derive(Clone, Copy, Debug, Eq, PartialEq)]
+pub struct Checked {
+    pub number: u32,
+    pub place: u64,
+}
+
+pub fn check(words: &[u32], pool: &[u8], empty: Empty) -> Checked {
+    let mut place = u64::from(UNWRITTEN);
+    // SAFETY: as above.
+    let number = unsafe {
+        c::dervisclo_check_table(
+            empty.pointer(words),
+            words.len(),
+            empty.pointer(pool),
+            pool.len(),
+            &mut place,
+        )
+    };
+    Checked { number, place }
 }

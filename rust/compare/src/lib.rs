@@ -7,4 +7,6 @@ pub mod call;
 pub mod judge;
 pub mod lent;
 pub mod literals;
+pub mod shapes;
+pub mod tables;
 pub mod wanted;

@@ -1,8 +1,9 @@
-use compare::bench;
-use compare::literals::{self, Plan};
+use compare::{bench, literals, tables};
+use oracle::run::Tally;
 use std::process::ExitCode;
 
 const USAGE: &str = "usage: compare literals [seed]
+       compare tables [seed]
        compare bench [rounds]";
 
 const SEED: u64 = 1;
@@ -18,17 +19,28 @@ fn main() -> ExitCode {
     };
     match (run, number.transpose()) {
         ("literals", Ok(seed)) => {
-            let tally = literals::run(&Plan::full(seed.unwrap_or(SEED)));
-            println!("{tally}");
-            if tally.failed > 0 {
-                return ExitCode::FAILURE;
-            }
+            let plan = literals::Plan::full(seed.unwrap_or(SEED));
+            ended(literals::run(&plan))
         }
-        ("bench", Ok(rounds)) => bench::run(rounds.map_or(ROUNDS, |rounds| rounds as usize)),
+        ("tables", Ok(seed)) => {
+            let plan = tables::Plan::full(seed.unwrap_or(SEED));
+            ended(tables::run(&plan))
+        }
+        ("bench", Ok(rounds)) => {
+            bench::run(rounds.map_or(ROUNDS, |rounds| rounds as usize));
+            ExitCode::SUCCESS
+        }
         _ => {
             eprintln!("{USAGE}");
-            return ExitCode::from(2);
+            ExitCode::from(2)
         }
+    }
+}
+
+fn ended(tally: Tally) -> ExitCode {
+    println!("{tally}");
+    if tally.failed > 0 {
+        return ExitCode::FAILURE;
     }
     ExitCode::SUCCESS
 }

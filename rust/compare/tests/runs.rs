@@ -1,7 +1,6 @@
-//! The comparison at a small size, and the plain Rust of the benchmark against the oracle.
+//! The comparisons at a small size, and the plain Rust of the benchmark against the oracle.
 
-use compare::literals::{self, Plan};
-use compare::{baseline, wanted};
+use compare::{baseline, literals, tables, wanted};
 use dervisclo::{Form, Kind, Refusal, Style};
 use oracle::plain_read;
 use oracle::run::literals::short_values;
@@ -9,9 +8,16 @@ use oracle::Settings;
 
 #[test]
 fn comparison_has_no_failure() {
-    let tally = literals::run(&Plan::small(2));
+    let tally = literals::run(&literals::Plan::small(2));
     assert_eq!(tally.failed, 0);
     assert!(tally.passed > 100_000, "{tally}");
+}
+
+#[test]
+fn comparison_of_tables_has_no_failure() {
+    let tally = tables::run(&tables::Plan::small(2));
+    assert_eq!(tally.failed, 0);
+    assert!(tally.passed > 30_000, "{tally}");
 }
 
 #[test]

@@ -40,4 +40,21 @@ unsafe extern "C" {
         length: *mut u64,
         form: *mut u32,
     ) -> u32;
+
+    /// Checks a node table. Answers document 01's number: 0, or the refusal 2 to 7.
+    ///
+    /// `words_len` counts words. `place` receives the smallest node with the fault on 3 to 7, and otherwise 0.
+    ///
+    /// # Safety
+    ///
+    /// `words` and `pool` each point to as many words, or bytes, as the length beside them says; a pointer whose length
+    /// is 0 may be null. `place` points to a number that may be written and overlaps nothing else. No slice is over
+    /// `isize::MAX` bytes.
+    pub fn dervisclo_check_table(
+        words: *const u32,
+        words_len: usize,
+        pool: *const u8,
+        pool_len: usize,
+        place: *mut u64,
+    ) -> u32;
 }

@@ -1,4 +1,4 @@
-//! GraphQL string literals, printed and read in memory that the caller lends.
+//! GraphQL string literals, printed and read in memory that the caller lends, and the check of a node table.
 //!
 //! The work is done by a proved library behind a C interface; this crate makes it safe to call. A literal is printed as
 //! the crate apollo-compiler 1.33.0 prints it, quoted or in block form, and what is printed reads back as exactly the
@@ -34,10 +34,15 @@
 //! assert_eq!(read_literal_to_vec(&text)?, (Form::Quoted, b"say \"hi\"".to_vec()));
 //! # Ok::<(), Refusal>(())
 //! ```
+//!
+//! [`check_table`] says whether document 01 accepts a node table, and if not, why and at which node.
 
 #![warn(missing_docs)]
 
 pub mod c;
+mod table;
+
+pub use table::{check_table, TableRefusal};
 
 use std::error::Error;
 use std::fmt;

@@ -16,11 +16,11 @@ Inv-loop s i₀ i = (i ≤ length s) × (closed (drop i s) ≡ closed s)
 abbrev μ-loop : tie.MeasureT-loop
 μ-loop s i₀ i = length s - i
 
-past-plain-requires : tie.Need-past-plain-requires Inv-loop μ-loop
-past-plain-requires c κs = search needs
+next-mark-requires : tie.Need-next-mark-requires Inv-loop μ-loop
+next-mark-requires c κs = search needs
 
 loop-holds : tie.Need-loop-holds Inv-loop μ-loop
-loop-holds c = (c .past-plain .ensures .within, closing-goes-on _ _ _ (c .past-plain .ensures))
+loop-holds c = (c .next-mark .ensures .within, closing-goes-on _ _ _ (c .next-mark .ensures))
 
 three-quotes-requires : tie.Need-three-quotes-requires Inv-loop μ-loop
 three-quotes-requires c κs = search needs
@@ -39,45 +39,45 @@ returns c =
 is-escape-requires : tie.Need-is-escape-requires Inv-loop μ-loop
 is-escape-requires c κs = search needs
 
-add-past-plain : tie.Need-add-past-plain Inv-loop μ-loop
-add-past-plain c =
+add-next-mark : tie.Need-add-next-mark Inv-loop μ-loop
+add-next-mark c =
     let turn = c .before .before .before .before in
     let s = turn .before .before .before .before .args .s .now in
     let escape = sym (c .before .is-escape .ensures) ∙ c .if2 .taken in
     omega (arith, escape-within s (turn .before .loop .i) (turn .loop-test .taken) escape)
 
-past-plain-requires-2 : tie.Need-past-plain-requires-2 Inv-loop μ-loop
-past-plain-requires-2 c κs =
+next-mark-requires-2 : tie.Need-next-mark-requires-2 Inv-loop μ-loop
+next-mark-requires-2 c κs =
     let turn = c .before .before .before .before in
     let s = turn .before .before .before .before .args .s .now in
     let escape = sym (c .before .is-escape .ensures) ∙ c .if2 .taken in
     omega (arith, escape-within s (turn .before .loop .i) (turn .loop-test .taken) escape)
 
 loop-less : tie.Need-loop-less Inv-loop μ-loop
-loop-less c = omega (arith, c .past-plain2 .ensures .onward, c .before .before .before .before .before .loop-test .taken)
+loop-less c = omega (arith, c .next-mark2 .ensures .onward, c .before .before .before .before .before .loop-test .taken)
 
 loop-again : tie.Need-loop-again Inv-loop μ-loop
 loop-again c =
     let turn = c .before .before .before .before .before in
     let l = turn .before .loop in
-    let p = c .past-plain2 .ensures in
+    let p = c .next-mark2 .ensures in
     let escape = sym (c .before .before .is-escape .ensures) ∙ c .before .if2 .taken in
     (p .within, closing-goes-on _ _ _ p ∙ sym (escape-is-passed _ (l .i) (turn .loop-test .taken) escape) ∙ l .inv .1)
 
-add-past-plain-2 : tie.Need-add-past-plain-2 Inv-loop μ-loop
-add-past-plain-2 c = search needs
+add-next-mark-2 : tie.Need-add-next-mark-2 Inv-loop μ-loop
+add-next-mark-2 c = search needs
 
-past-plain-requires-3 : tie.Need-past-plain-requires-3 Inv-loop μ-loop
-past-plain-requires-3 c κs = search needs
+next-mark-requires-3 : tie.Need-next-mark-requires-3 Inv-loop μ-loop
+next-mark-requires-3 c κs = search needs
 
 loop-less-2 : tie.Need-loop-less-2 Inv-loop μ-loop
-loop-less-2 c = omega (arith, c .past-plain3 .ensures .onward, c .before .before .before .before .before .loop-test .taken)
+loop-less-2 c = omega (arith, c .next-mark3 .ensures .onward, c .before .before .before .before .before .loop-test .taken)
 
 loop-again-2 : tie.Need-loop-again-2 Inv-loop μ-loop
 loop-again-2 c =
     let turn = c .before .before .before .before .before in
     let l = turn .before .loop in
-    let p = c .past-plain3 .ensures in
+    let p = c .next-mark3 .ensures in
     let no-quotes = sym (c .before .before .before .before .three-quotes .ensures) ∙ c .before .before .before .if1 .left in
     let no-escape = sym (c .before .before .is-escape .ensures) ∙ c .before .if2 .left in
     (p .within, closing-goes-on _ _ _ p ∙ sym (byte-is-passed _ (l .i) (turn .loop-test .taken) no-quotes no-escape) ∙ l .inv .1)
@@ -91,18 +91,18 @@ is-closed-spec =
     (tie.spec
     Inv-loop
     μ-loop
-    past-plain-requires
+    next-mark-requires
     loop-holds
     three-quotes-requires
     add-result
     returns
     is-escape-requires
-    add-past-plain
-    past-plain-requires-2
+    add-next-mark
+    next-mark-requires-2
     loop-less
     loop-again
-    add-past-plain-2
-    past-plain-requires-3
+    add-next-mark-2
+    next-mark-requires-3
     loop-less-2
     loop-again-2
     returns-2)

@@ -1,0 +1,4 @@
+pub mod Shaped
+pub mod Walk
+pub mod States
+pub mod Reach

@@ -1,0 +1,66 @@
+//! The check of a node table: each refusal, and the node that it names.
+
+use dervisclo::{check_table, TableRefusal};
+
+/// The query of a.
+const QUERY: [u32; 15] = [0, 0, 0, 0, 3, 1, 0, 0, 0, 3, 29, 0, 0, 1, 3];
+
+/// The query of a with one word changed.
+fn changed(at: usize, word: u32) -> [u32; 15] {
+    let mut words = QUERY;
+    words[at] = word;
+    words
+}
+
+/// A query of fields within one another, so many nodes in all.
+fn nested(nodes: u32) -> Vec<u32> {
+    let node = |number| match number {
+        0 => [0, 0, 0, 0, nodes],
+        1 => [1, 0, 0, 0, nodes],
+        _ => [29, 0, 0, 1, nodes],
+    };
+    (0..nodes).flat_map(node).collect()
+}
+
+#[test]
+fn accepted() {
+    assert_eq!(check_table(&QUERY, b"a"), Ok(()));
+    assert_eq!(check_table(&QUERY, b"a\xff"), Ok(()));
+    assert_eq!(check_table(&[0, 0, 0, 0, 1], b""), Ok(()));
+    assert_eq!(check_table(&nested(65), b"a"), Ok(()));
+}
+
+#[test]
+fn refused() {
+    use TableRefusal::*;
+    assert_eq!(check_table(&[], b""), Err(Size));
+    assert_eq!(check_table(&QUERY[..14], b"a"), Err(Size));
+    assert_eq!(check_table(&QUERY, &[b'a'; 65_537]), Err(Size));
+    assert_eq!(check_table(&QUERY, b""), Err(Node { place: 2 }));
+    assert_eq!(check_table(&changed(0, 1), b"a"), Err(Node { place: 0 }));
+    let crossed = [
+        [0, 0, 0, 0, 4],
+        [1, 0, 0, 0, 3],
+        [29, 0, 0, 1, 4],
+        [29, 0, 0, 1, 4],
+    ];
+    assert_eq!(
+        check_table(crossed.as_flattened(), b"a"),
+        Err(Nesting { place: 1 })
+    );
+    assert_eq!(check_table(&nested(66), b"a"), Err(Depth { place: 65 }));
+    assert_eq!(
+        check_table(&changed(10, 30), b"a"),
+        Err(Children { place: 1 })
+    );
+    assert_eq!(check_table(&QUERY, b"-"), Err(Text { place: 2 }));
+}
+
+#[test]
+fn refusals_have_numbers_places_and_words() {
+    let refusal = check_table(&nested(67), b"a").unwrap_err();
+    assert_eq!((refusal.number(), refusal.place()), (5, 65));
+    assert_eq!(refusal.to_string(), "depth, node 65: deeper than 64");
+    let refusal = check_table(&[], b"a").unwrap_err();
+    assert_eq!((refusal.number(), refusal.place()), (2, 0));
+}
