@@ -106,6 +106,15 @@ uint32_t dervisclo_read_literal(const uint8_t *text, size_t text_len, uint8_t *o
 uint32_t dervisclo_check_table(const uint32_t *words, size_t words_len, const uint8_t *pool, size_t pool_len,
                                uint64_t *place);
 
+/*
+ * The same for a document that is to be printed under these settings, which are looked at first: DERVISCLO_SETTINGS is
+ * answered where breaks is neither 0 nor 1, the prefix is over 16 bytes or has a byte other than space and tab, or the
+ * level is over 64.
+ */
+uint32_t dervisclo_check_document(uint32_t breaks, const uint8_t *prefix, size_t prefix_len, uint64_t level,
+                                  const uint32_t *words, size_t words_len, const uint8_t *pool, size_t pool_len,
+                                  uint64_t *place);
+
 #ifdef __cplusplus
 }
 #endif

@@ -15,7 +15,8 @@ use Rattle.meaning.specs.First.{first, IsFirst}
 use Rattle.meaning.specs.Table.{nodes}
 use Rattle.meaning.specs.Refusals.{sizeFault, nodeFault, nestingFault, depthFault, childrenFault, textFault, hasFault, lowestFrom, verdict}
 use Rattle.meaning.specs.Answers.{Answer, answer}
-use Rattle.meaning.specs.Entries.{verdictAnswer, checkedTable}
+use Rattle.meaning.specs.Settings.{Settings, documentLevels, settingsFault}
+use Rattle.meaning.specs.Entries.{verdictAnswer, checkedTable, checkedDocument}
 use Rattle.table_laws.specs.First.{first-is-first}
 use Rattle.nodes.specs.Counted.{Counted}
 use Rattle.nodes.specs.Sound.{Sound, sound}
@@ -122,3 +123,14 @@ module _ (w p : List ℕ) (n at : ℕ) where
 pub all-passed : (m : ℕ) (w p : List ℕ) → answer 0 0 0 ≡ verdictAnswer (lowestFrom 0 m w p)
 unfolding lowestFrom
 all-passed m w p = refl
+
+-- ---- settings first
+
+module _ (s : Settings) (w p : List ℕ) (f : Bool) (e : f ≡ settingsFault documentLevels s) where
+  pub refuses-settings : f ≡ true → answer 1 0 0 ≡ checkedDocument s w p
+  unfolding checkedDocument
+  refuses-settings t = rw (sym e ∙ t)
+
+  pub leaves-table : f ≡ false → checkedTable w p ≡ checkedDocument s w p
+  unfolding checkedDocument
+  leaves-table z = rw (sym e ∙ z)

@@ -1,8 +1,9 @@
 // Any table gets an answer: refusals 2 to 7 of document 01, the lowest number first, at the smallest node.
 ghost use mathlib.Core.Path.{_≡_};
+ghost use Rattle.meaning.specs.Settings.{settings};
 ghost use Rattle.meaning.specs.Refusals.{sizeFault, lowestFrom};
 ghost use Rattle.meaning.specs.Answers.{checkedAnswer};
-ghost use Rattle.meaning.specs.Entries.{verdictAnswer, checkedTable};
+ghost use Rattle.meaning.specs.Entries.{verdictAnswer, checkedTable, checkedDocument};
 ghost use Rattle.nodes.specs.Counted.{Counted};
 ghost use Rattle.check_table.specs.Stages.{Ready};
 
@@ -11,6 +12,8 @@ const WORDS_PER_NODE: usize = 5;
 const MOST_NODES: usize = 8192;
 
 const LARGEST_POOL: usize = 65536;
+
+const DOCUMENT_LEVELS: usize = 64;
 
 fn size_fault(words: &[u32], pool: &[u8]) -> bool
     ensures { λ r. ⌜ r ≡ sizeFault (now (words .entry)) (now (pool .entry)) ⌝ }
@@ -91,4 +94,20 @@ pub fn check_table(words: &[u32], pool: &[u8]) -> meaning::Checked
         return meaning::Checked::Refused(meaning::Refusal::Size);
     }
     from_nodes(words, pool, words.len() / WORDS_PER_NODE)
+}
+
+// The same for a document that is to be printed under these settings.
+pub fn check_document(
+    breaks: bool,
+    prefix: &[u8],
+    level: usize,
+    words: &[u32],
+    pool: &[u8],
+) -> meaning::Checked
+    ensures { λ r. ⌜ checkedAnswer r ≡ checkedDocument (settings breaks (now (prefix .entry)) level) (now (words .entry)) (now (pool .entry)) ⌝ }
+{
+    if settings::settings_fault(DOCUMENT_LEVELS, breaks, prefix, level) {
+        return meaning::Checked::Refused(meaning::Refusal::Settings);
+    }
+    check_table(words, pool)
 }

@@ -4,13 +4,12 @@ use mathlib.Core.Option.{Option, none, some}
 use mathlib.Core.List.{List}
 use Prim.Native.Nat.{ℕ}
 use Rattle.meaning.specs.Reading.{Form, quotedForm, blockForm}
-use Rattle.meaning.specs.Answers.{Answer, refusalAnswer, checkedAnswer, readingAnswer, formRead}
+use Rattle.meaning.specs.Answers.{Answer, checkedAnswer, readingAnswer, formRead}
 use Rattle.meaning.specs.Entries.{Outcome}
 use Rattle.meaning.specs.declared.Form.{Form as DeclaredForm}
 use Rattle.meaning.specs.declared.Offset.{Offset}
 use Rattle.meaning.specs.declared.Refusal.{Refusal}
 use Rattle.meaning.specs.declared.Checked.{Checked}
-use Rattle.meaning.specs.declared.Checked.the-variants.{Accepted, Refused as NotAccepted}
 use Rattle.meaning.specs.declared.Reading.{Reading}
 use Rattle.meaning.specs.declared.Reading.the-variants.{Value, Refused as NotRead}
 
@@ -57,9 +56,5 @@ pub record ToldPlace (a : Answer) (n i : ℕ) : Type 0 where
   pub number : n ≡ a .number
   pub place : i ≡ a .place
 
-module _ {a : Answer} {c : Checked} (e : checkedAnswer c ≡ a) where
-  pub told-accepted : c ≡ Accepted → ToldPlace a 0 0
-  told-accepted p = subst (λ (x : Answer). ToldPlace x 0 0) (sym (ap checkedAnswer p) ∙ e) (record { number = refl; place = refl })
-
-  pub told-place : {w : Refusal} {n i : ℕ} → c ≡ NotAccepted w → n ≡ refusalAnswer w .number → i ≡ refusalAnswer w .place → ToldPlace a n i
-  told-place {w} {n} {i} p f g = subst (λ (x : Answer). ToldPlace x n i) (sym (ap checkedAnswer p) ∙ e) (record { number = f; place = g })
+pub told-place : {a : Answer} (c : Checked) {n i : ℕ} → checkedAnswer c ≡ a → n ≡ checkedAnswer c .number → i ≡ checkedAnswer c .place → ToldPlace a n i
+told-place {a} c {n} {i} e f g = subst (λ (x : Answer). ToldPlace x n i) e (record { number = f; place = g })

@@ -7,7 +7,8 @@ use lib.Dec.{eqb, ltb}
 use borrow.Author.Tests.{lt-ltb, le-ltb}
 use Rattle.meaning.specs.Settings.{settings}
 use Rattle.meaning.specs.Answers.{Answer, answer}
-use Rattle.meaning.specs.Entries.{printedLiteral, printedLiteralByNumbers}
+use Rattle.meaning.specs.Entries.{printedLiteral, printedLiteralByNumbers, checkedDocument, checkedDocumentByNumbers}
+use Rattle.gateway.specs.Numbers.{ToldPlace}
 
 module _ (breaks : ℕ) (prefix : List ℕ) (level description : ℕ) (value out : List ℕ) where
   pub no-such-breaks : 1 < breaks → printedLiteralByNumbers breaks prefix level description value out ≡ (answer 1 0 0, out)
@@ -23,3 +24,13 @@ module _ (breaks : ℕ) (prefix : List ℕ) (level description : ℕ) (value out
         → printedLiteralByNumbers breaks prefix level description value out ≡ printedLiteral (settings (eqb breaks 1) prefix level) (eqb description 1) value out
     unfolding printedLiteralByNumbers
     switches-tell h = rw (le-ltb 1 breaks b, le-ltb 1 description h)
+
+-- and of a document's check
+module _ (breaks : ℕ) (prefix : List ℕ) (level : ℕ) (w p : List ℕ) where
+  pub no-such-switch : 1 < breaks → ToldPlace (checkedDocumentByNumbers breaks prefix level w p) 1 0
+  unfolding checkedDocumentByNumbers
+  no-such-switch h = rw (lt-ltb 1 breaks h) (record { number = refl; place = refl })
+
+  pub switch-tells : breaks ≤ 1 → checkedDocument (settings (eqb breaks 1) prefix level) w p ≡ checkedDocumentByNumbers breaks prefix level w p
+  unfolding checkedDocumentByNumbers
+  switch-tells h = rw (le-ltb 1 breaks h)

@@ -1,8 +1,8 @@
 // The C interface: numbers and byte slices. The result is document 01's number, 0 for success.
 ghost use mathlib.Core.Path.{_≡_};
 ghost use mathlib.Core.Option.{some};
-ghost use Rattle.meaning.specs.Answers.{refusalAnswer, printedAnswer, readingAnswer, formRead};
-ghost use Rattle.meaning.specs.Entries.{printedLiteralByNumbers, readLiteral, checkedTable};
+ghost use Rattle.meaning.specs.Answers.{refusalAnswer, checkedAnswer, printedAnswer, readingAnswer, formRead};
+ghost use Rattle.meaning.specs.Entries.{printedLiteralByNumbers, readLiteral, checkedTable, checkedDocumentByNumbers};
 ghost use Rattle.gateway.specs.Numbers.{formNumber, Told, ToldForm, ToldPlace};
 
 fn number(r: meaning::Refusal) -> u32
@@ -157,16 +157,51 @@ pub extern "C" fn dervisclo_read_literal(
     0
 }
 
+fn checked_number(c: meaning::Checked) -> u32
+    ensures { λ n. ⌜ n ≡ checkedAnswer c .number ⌝ }
+{
+    let meaning::Checked::Refused(why) = c else {
+        return 0;
+    };
+    number(why)
+}
+
+fn checked_place(c: meaning::Checked) -> u64
+    ensures { λ n. ⌜ n ≡ checkedAnswer c .place ⌝ }
+{
+    let meaning::Checked::Refused(why) = c else {
+        return 0;
+    };
+    place_of(why)
+}
+
 // The lowest refusal of a table, and its place; 0 where it is accepted.
 #[no_mangle]
 pub extern "C" fn dervisclo_check_table(words: &[u32], pool: &[u8], place: &mut u64) -> u32
     ensures { λ r. ⌜ ToldPlace (checkedTable (now (words .entry)) (now (pool .entry))) r (now (place .exit)) ⌝ }
 {
     let answer = check_table::check_table(words, pool);
-    let meaning::Checked::Refused(why) = answer else {
+    *place = checked_place(answer);
+    checked_number(answer)
+}
+
+// The same for a document that is to be printed under these settings.
+#[no_mangle]
+pub extern "C" fn dervisclo_check_document(
+    breaks: u32,
+    prefix: &[u8],
+    level: u64,
+    words: &[u32],
+    pool: &[u8],
+    place: &mut u64,
+) -> u32
+    ensures { λ r. ⌜ ToldPlace (checkedDocumentByNumbers breaks (now (prefix .entry)) level (now (words .entry)) (now (pool .entry))) r (now (place .exit)) ⌝ }
+{
+    if breaks > 1 {
         *place = 0;
-        return 0;
-    };
-    *place = place_of(why);
-    number(why)
+        return 1;
+    }
+    let answer = check_table::check_document(breaks == 1, prefix, level as usize, words, pool);
+    *place = checked_place(answer);
+    checked_number(answer)
 }

@@ -1,4 +1,2 @@
-pub mod Blanks
-pub mod Faults
 pub mod Chosen
 pub mod Printing

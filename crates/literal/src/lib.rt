@@ -4,7 +4,7 @@ ghost use mathlib.Core.Bool.{true, false, _&&_, _||_};
 ghost use Prim.Native.Nat.{_+_, _*_, _≤_};
 ghost use lib.ListN.{length};
 ghost use Rattle.meaning.specs.Ascii.{lineFeed};
-ghost use Rattle.meaning.specs.Settings.{settings, blank, times, settingsFault, literalLevels};
+ghost use Rattle.meaning.specs.Settings.{settings, times};
 ghost use Rattle.meaning.specs.Block.{has, canBeBlockString};
 ghost use Rattle.meaning.specs.Literal.{literal};
 ghost use Rattle.meaning.specs.Answers.{printedAnswer};
@@ -13,40 +13,9 @@ ghost use Rattle.pen.specs.Wrote.{Wrote};
 ghost use Rattle.quoted.specs.Classes.{classes};
 ghost use Rattle.literal.specs.Chosen.{chosen, fitOf};
 
-const LONGEST_PREFIX: usize = 16;
-
 const LEVELS: usize = 128;
 
 const LONGEST_VALUE: usize = 65536;
-
-// Whether there are only spaces and tabs.
-fn is_blank(prefix: &[u8]) -> bool
-    ensures { λ r. ⌜ r ≡ blank (now (prefix .entry)) ⌝ }
-{
-    let mut i = 0;
-    while i < prefix.len() {
-        let b = prefix[i];
-        i += 1;
-        if b != b' ' {
-            if b != b'\t' {
-                return false;
-            }
-        }
-    }
-    true
-}
-
-fn settings_fault(breaks: bool, prefix: &[u8], level: usize) -> bool
-    ensures { λ r. ⌜ r ≡ settingsFault literalLevels (settings breaks (now (prefix .entry)) level) ⌝ }
-{
-    if LONGEST_PREFIX < prefix.len() {
-        return true;
-    }
-    if !is_blank(prefix) {
-        return true;
-    }
-    LEVELS < level
-}
 
 // Block form needs breaks, a description or a line feed, and a value that a block string can stand for.
 fn takes_block(breaks: bool, description: bool, value: &[u8]) -> bool
@@ -160,7 +129,7 @@ pub fn print_literal(
 ) -> meaning::Printed
     ensures { λ r. ⌜ (printedAnswer r, now (out .exit)) ≡ printedLiteral (settings breaks (now (prefix .entry)) level) description (now (value .entry)) (now (out .entry)) ⌝ }
 {
-    if settings_fault(breaks, prefix, level) {
+    if settings::settings_fault(LEVELS, breaks, prefix, level) {
         return meaning::Printed::Refused(meaning::Refusal::Settings);
     }
     if LONGEST_VALUE < value.len() {

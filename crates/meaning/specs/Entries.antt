@@ -68,6 +68,16 @@ unfoldable pub checkedTable : List ℕ → List ℕ → Answer
 unfolding verdict
 checkedTable w p = verdictAnswer (verdict w p)
 
+-- the same where the caller has the settings too: 1 goes before the table's refusals
+unfoldable pub checkedDocument : Settings → List ℕ → List ℕ → Answer
+unfolding settingsFault checkedTable
+checkedDocument s w p = if settingsFault documentLevels s then answer 1 0 0 else checkedTable w p
+
+unfoldable pub checkedDocumentByNumbers : ℕ → List ℕ → ℕ → List ℕ → List ℕ → Answer
+unfolding switchFault checkedDocument
+checkedDocumentByNumbers breaks prefix level w p =
+    if switchFault breaks then answer 1 0 0 else checkedDocument (settings (eqb breaks 1) prefix level) w p
+
 -- a document's printing: 1, then the table's refusals, then 8
 abbrev pub printedOf : Verdict → List ℕ → List ℕ → Outcome
 printedOf accepted text out = written text out

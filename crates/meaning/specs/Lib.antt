@@ -23,3 +23,4 @@ pub mod Tempting
 pub mod Sampler
 pub mod KnownReadings
 pub mod KnownRefusals
+pub mod KnownEntries

@@ -57,4 +57,21 @@ unsafe extern "C" {
         pool_len: usize,
         place: *mut u64,
     ) -> u32;
+
+    /// The same for a document that is to be printed under these settings: 1, or the answer of the table's check.
+    ///
+    /// # Safety
+    ///
+    /// As for a table; `prefix` points to as many bytes as its length says.
+    pub fn dervisclo_check_document(
+        breaks: u32,
+        prefix: *const u8,
+        prefix_len: usize,
+        level: u64,
+        words: *const u32,
+        words_len: usize,
+        pool: *const u8,
+        pool_len: usize,
+        place: *mut u64,
+    ) -> u32;
 }

@@ -42,7 +42,7 @@
 pub mod c;
 mod table;
 
-pub use table::{check_table, TableRefusal};
+pub use table::{check_document, check_table, TableRefusal};
 
 use std::error::Error;
 use std::fmt;

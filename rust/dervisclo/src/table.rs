@@ -1,6 +1,6 @@
 //! The check of a node table.
 
-use crate::c;
+use crate::{c, Style};
 use std::error::Error;
 use std::fmt;
 
@@ -8,6 +8,9 @@ use std::fmt;
 /// fault.
 #[derive(Clone, Copy, Debug, Eq, PartialEq)]
 pub enum TableRefusal {
+    /// 1: a prefix over 16 bytes or with a byte other than space and tab, or a level over 64. Only [`check_document`]
+    /// answers it.
+    Settings,
     /// 2: the words are not a multiple of five, there is no node or over 8,192, or the pool is over 65,536 bytes.
     Size,
     /// 3: unknown kind or variant; text outside the pool; length 0 with start not 0; text where none is allowed; end
@@ -42,6 +45,7 @@ impl TableRefusal {
     /// Document 01's number of this refusal, as the C interface answers it.
     pub fn number(self) -> u32 {
         match self {
+            Self::Settings => 1,
             Self::Size => 2,
             Self::Node { .. } => 3,
             Self::Nesting { .. } => 4,
@@ -51,10 +55,10 @@ impl TableRefusal {
         }
     }
 
-    /// The node that the refusal names; 0 for [`TableRefusal::Size`], which names none.
+    /// The node that the refusal names; 0 for [`TableRefusal::Settings`] and [`TableRefusal::Size`], which name none.
     pub fn place(self) -> usize {
         match self {
-            Self::Size => 0,
+            Self::Settings | Self::Size => 0,
             Self::Node { place }
             | Self::Nesting { place }
             | Self::Depth { place }
@@ -65,6 +69,7 @@ impl TableRefusal {
 
     fn from_answer(number: u32, place: usize) -> Self {
         match number {
+            1 => Self::Settings,
             2 => Self::Size,
             3 => Self::Node { place },
             4 => Self::Nesting { place },
@@ -79,6 +84,9 @@ impl TableRefusal {
 impl fmt::Display for TableRefusal {
     fn fmt(&self, f: &mut fmt::Formatter<'_>) -> fmt::Result {
         match self {
+            Self::Settings => f.write_str(
+                "settings: prefix over 16 bytes or with a byte other than space and tab, or level over 64",
+            ),
             Self::Size => f.write_str(
                 "size: words not a multiple of 5, no node, over 8,192 nodes, or pool over 65,536 bytes",
             ),
@@ -139,8 +147,43 @@ pub fn check_table(words: &[u32], pool: &[u8]) -> Result<(), TableRefusal> {
             &mut place,
         )
     };
+    told(number, place)
+}
+
+fn told(number: u32, place: u64) -> Result<(), TableRefusal> {
     match number {
         0 => Ok(()),
         _ => Err(TableRefusal::from_answer(number, place as usize)),
     }
+}
+
+/// Does document 01 accept this node table for printing in this style? The style is looked at first, and its level is at
+/// most 64 here.
+///
+/// ```
+/// use dervisclo::{check_document, Style, TableRefusal};
+///
+/// let words = [0, 0, 0, 0, 3, 1, 0, 0, 0, 3, 29, 0, 0, 1, 3];
+/// let style = Style { level: 64, ..Style::default() };
+/// assert_eq!(check_document(&style, &words, b"a"), Ok(()));
+/// let style = Style { level: 65, ..Style::default() };
+/// assert_eq!(check_document(&style, &words, b"-"), Err(TableRefusal::Settings));
+/// ```
+pub fn check_document(style: &Style, words: &[u32], pool: &[u8]) -> Result<(), TableRefusal> {
+    let mut place = 0;
+    // SAFETY: each pointer comes with the length of the slice behind it, and what is lent mutably overlaps nothing.
+    let number = unsafe {
+        c::dervisclo_check_document(
+            u32::from(style.breaks),
+            style.prefix.as_ptr(),
+            style.prefix.len(),
+            style.level,
+            words.as_ptr(),
+            words.len(),
+            pool.as_ptr(),
+            pool.len(),
+            &mut place,
+        )
+    };
+    told(number, place)
 }

@@ -1,6 +1,6 @@
 //! The check of a node table: each refusal, and the node that it names.
 
-use dervisclo::{check_table, TableRefusal};
+use dervisclo::{check_document, check_table, Style, TableRefusal};
 
 /// The query of a.
 const QUERY: [u32; 15] = [0, 0, 0, 0, 3, 1, 0, 0, 0, 3, 29, 0, 0, 1, 3];
@@ -63,4 +63,60 @@ fn refusals_have_numbers_places_and_words() {
     assert_eq!(refusal.to_string(), "depth, node 65: deeper than 64");
     let refusal = check_table(&[], b"a").unwrap_err();
     assert_eq!((refusal.number(), refusal.place()), (2, 0));
+}
+
+#[test]
+fn settings_go_before_the_table() {
+    use TableRefusal::*;
+    let style = |prefix, level| Style {
+        breaks: true,
+        prefix,
+        level,
+    };
+    let sixteen = [b' '; 16];
+    assert_eq!(check_document(&style(&sixteen, 64), &QUERY, b"a"), Ok(()));
+    assert_eq!(
+        check_document(&style(b"\t", 0), &QUERY, b"-"),
+        Err(Text { place: 2 })
+    );
+    for (prefix, level) in [
+        (&[b' '; 17][..], 0),
+        (b" x", 0),
+        (b"  ", 65),
+        (b"", u64::MAX),
+    ] {
+        for breaks in [true, false] {
+            let style = Style {
+                breaks,
+                prefix,
+                level,
+            };
+            assert_eq!(check_document(&style, &QUERY, b"a"), Err(Settings));
+            assert_eq!(check_document(&style, &[], b""), Err(Settings));
+        }
+    }
+    let refusal = check_document(&style(b"", 65), &QUERY, b"a").unwrap_err();
+    assert_eq!((refusal.number(), refusal.place()), (1, 0));
+}
+
+#[test]
+fn a_switch_is_0_or_1() {
+    for breaks in 0..4 {
+        let mut place = 9;
+        // SAFETY: each pointer comes with the length of the slice behind it.
+        let number = unsafe {
+            dervisclo::c::dervisclo_check_document(
+                breaks,
+                std::ptr::null(),
+                0,
+                0,
+                QUERY.as_ptr(),
+                QUERY.len(),
+                b"a".as_ptr(),
+                1,
+                &mut place,
+            )
+        };
+        assert_eq!((number, place), (u32::from(breaks > 1), 0));
+    }
 }

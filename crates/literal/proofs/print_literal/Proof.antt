@@ -1,6 +1,6 @@
 -- `literal::print_literal` meets its contract: each refusal by its law, and the literal by the writer that was told to write it.
 use mathlib.Core.Path.{sym, _∙_}
-use Rattle.literal.specs.Faults.{small-settings}
+use Rattle.settings.specs.Faults.{small-settings}
 use Rattle.literal.specs.Chosen.{chosen-is-literal}
 use Rattle.literal.specs.Printing.{refuses-settings, refuses-size, refuses-text, printable, refuses-room, prints}
 use borrow.Author.Needs.{needs}
@@ -34,7 +34,7 @@ fits-requires : tie.Need-fits-requires
 fits-requires c κs =
     let u = c .before .before .before .before in
     let f = u .before .before .before in
-    let small = small-settings _ _ _ (sym (f .settings-fault .ensures) ∙ u .before .before .if1 .left) in
+    let small = small-settings _ _ _ _ (sym (f .settings-fault .ensures) ∙ u .before .before .if1 .left) in
     search (needs, small)
 
 enum-known-f : tie.Need-enum-known-f

@@ -1,12 +1,12 @@
--- `literal::is_blank` meets its contract: what is left of the prefix is blank exactly if all of it is.
+-- `settings::is_blank` meets its contract: what is left of the prefix is blank exactly if all of it is.
 use mathlib.Core.Path.{_≡_, refl, sym, _∙_}
 use Prim.Native.Nat.{_≤_, _-_}
 use lib.ListN.{length, drop}
 use native.Mathlib.Omega.{arith}
 use Rattle.meaning.specs.Settings.{blank}
-use Rattle.literal.specs.Blanks.{space-next, tab-next, other-byte, blank-over}
-use Rattle.literal.proofs.is_blank.Statement.{statement}
-use Rattle.literal.proofs.is_blank.Tie as tie
+use Rattle.settings.specs.Blanks.{space-next, tab-next, other-byte, blank-over}
+use Rattle.settings.proofs.is_blank.Statement.{statement}
+use Rattle.settings.proofs.is_blank.Tie as tie
 
 abbrev Inv-loop : tie.InvT-loop
 Inv-loop prefix i₀ i = (i ≤ length prefix) × (blank (drop i prefix) ≡ blank prefix)
