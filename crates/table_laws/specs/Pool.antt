@@ -12,7 +12,8 @@ use Rattle.meaning.specs.Ascii.{if_then_else_}
 use Rattle.meaning.specs.First.{first}
 use Rattle.meaning.specs.Table.{nodes, textAt}
 use Rattle.meaning.specs.Refusals.{sizeFault, nodeFault, nestingFault, depthFault, childrenFault, textFault, hasFault, Verdict, refusal, lowestFrom, verdict}
-use Rattle.meaning.specs.Entries.{checkedTable}
+use Rattle.meaning.specs.Settings.{Settings}
+use Rattle.meaning.specs.Entries.{checkedTable, checkedDocument}
 
 -- tests that agree below n have one first
 pub first-same : (f g : ℕ → Bool) (n : ℕ) → ((k : ℕ) → k < n → f k ≡ g k) → first f n ≡ first g n
@@ -48,3 +49,7 @@ module _ (w p q : List ℕ) (size : length p ≡ length q) (named : (i : ℕ) �
   pub checked-alike : checkedTable w p ≡ checkedTable w q
   unfolding checkedTable
   checked-alike = rw pool-bytes-never-matter
+
+  pub document-checked-alike : (s : Settings) → checkedDocument s w p ≡ checkedDocument s w q
+  unfolding checkedDocument
+  document-checked-alike s = rw checked-alike

@@ -1,10 +1,13 @@
 use oracle::crate_printer;
-use oracle::run::{compare, definitions, known, literals, vectors, Tally, ABSENT};
+use oracle::run::{compare, definitions, known, literals, print, vectors, Tally, ABSENT};
 use std::fs;
 use std::path::Path;
 use std::process::ExitCode;
 
-const USAGE: &str = "usage: oracle known
+const USAGE: &str = "usage: oracle print <breaks> <level> <prefix> <words> <pool>
+       oracle display <breaks> <level> <prefix> <words> <pool>
+       oracle literal <d|s> <breaks> <level> <prefix> <value>
+       oracle known
        oracle compare [seed] [count]
        oracle literals [seed] [count]
        oracle vectors <directory>
@@ -22,8 +25,12 @@ fn main() -> ExitCode {
         Some(text) => text.parse().ok(),
         None => Some(default),
     };
-    if let ["definitions", vectors, out] = arguments[..] {
-        return write_definitions(vectors, out);
+    match arguments[..] {
+        ["definitions", vectors, out] => return write_definitions(vectors, out),
+        ["print", a, b, c, d, e] => return show(|| print::document([a, b, c, d, e], false)),
+        ["display", a, b, c, d, e] => return show(|| print::document([a, b, c, d, e], true)),
+        ["literal", a, b, c, d, e] => return show(|| print::literal([a, b, c, d, e])),
+        _ => {}
     }
     print_sources();
     let tally = match (arguments.first(), number(1, SEED)) {
@@ -46,6 +53,24 @@ fn main() -> ExitCode {
         ExitCode::SUCCESS
     } else {
         ExitCode::FAILURE
+    }
+}
+
+/// Writes a text that the crate printed.
+fn show(text: impl Fn() -> Result<String, String>) -> ExitCode {
+    if !crate_printer::PRESENT {
+        println!("{ABSENT}");
+        return ExitCode::SUCCESS;
+    }
+    match text() {
+        Ok(text) => {
+            print!("{text}");
+            ExitCode::SUCCESS
+        }
+        Err(what) => {
+            eprintln!("{what}");
+            ExitCode::FAILURE
+        }
     }
 }
 

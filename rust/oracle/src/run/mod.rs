@@ -5,6 +5,7 @@ pub mod coverage;
 pub mod definitions;
 pub mod known;
 pub mod literals;
+pub mod print;
 pub mod rows;
 pub mod vectors;
 
