@@ -14,9 +14,9 @@ use Rattle.vector_lines.specs.Parts.{before, after, fieldOf, countOf, sp
 pub drop-one : (s : List ℕ) (i : ℕ) → i < length s → drop i s ≡ getD s i 0 ∷ drop (i + 1) s
 drop-one s i h = rw (add-one, drop-cons s i 0)
 
-pub before-stop : (s : List ℕ) (i stop : ℕ) → i < length s → getD s i 0 ≡ stop → length (before stop (drop i s)) ≡ 0
+pub before-here : (s : List ℕ) (i stop : ℕ) → i < length s → getD s i 0 ≡ stop → length (before stop (drop i s)) ≡ 0
 unfolding before
-before-stop s i stop h e = rw (drop-one s i h, eq-eqb _ _ e)
+before-here s i stop h e = rw (drop-one s i h, eq-eqb _ _ e)
 
 pub before-more : (s : List ℕ) (i stop : ℕ) → i < length s → (getD s i 0 ≡ stop → ⊥)
     → length (before stop (drop i s)) ≡ suc (length (before stop (drop (i + 1) s)))

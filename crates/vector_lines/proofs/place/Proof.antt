@@ -5,7 +5,7 @@ use native.Mathlib.Omega.{arith}
 use lib.ListN.{length, drop}
 use borrow.Author.Needs.{needs}
 use Rattle.vector_lines.specs.Parts.{before}
-use Rattle.vector_lines.proofs.Parts.{before-stop, before-more, before-end}
+use Rattle.vector_lines.proofs.Parts.{before-here, before-more, before-end}
 use Rattle.vector_lines.proofs.place.Statement.{statement}
 use Rattle.vector_lines.proofs.place.Tie as tie
 
@@ -25,7 +25,7 @@ returns : tie.Need-returns Inv-loop μ-loop
 returns c =
     let b = c .before .before .before in
     let a = b .before .args in
-    omega (arith, before-stop (a .s .now) (b .loop .i) (a .stop) (omega arith) (c .if1 .taken))
+    omega (arith, before-here (a .s .now) (b .loop .i) (a .stop) (omega arith) (c .if1 .taken))
 
 add-i : tie.Need-add-i Inv-loop μ-loop
 add-i c = search needs
