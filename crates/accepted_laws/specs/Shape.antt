@@ -1,7 +1,7 @@
 -- What an accepted table is, read off its tests: it has nodes, but few, and a small pool; node 0 is the Document and ends it; texts lie
 -- in the pool and ends nest. Each line is one test of refusals 2 to 5 that is false.
 use mathlib.Core.Path.{_≡_, refl}
-use mathlib.Core.Bool.{Bool, true, false, not, _&&_, _||_}
+use mathlib.Core.Bool.{false, not, _&&_, _||_}
 use mathlib.Core.List.{List}
 use Prim.Native.Nat.{ℕ, _%_, _*_, _≤_, _<_}
 use native.Mathlib.Omega.{arith}
