@@ -1,11 +1,11 @@
 -- The literal once its form is chosen, and whether it fits.
 use mathlib.Core.Path.{_≡_, refl, sym, ap, _∙_}
 use mathlib.Core.Bool.{Bool, true, false, not, _&&_, _||_}
-use mathlib.Core.List.{List, [], _∷_}
-use Prim.Native.Nat.{ℕ, suc, _+_, _*_, _/_, _≤_, _<_, _^_, _-_}
+use mathlib.Core.List.{List}
+use Prim.Native.Nat.{ℕ, _+_, _*_, _/_, _≤_, _<_, _^_, _-_}
 use native.Mathlib.Omega.{arith}
 use native.Mathlib.Nat.{mul-le-mul}
-use lib.Dec.{eqb, leb}
+use lib.Dec.{leb}
 use lib.ListN.{length}
 use borrow.Author.Tests.{le-leb, lt-leb}
 use Rattle.base.specs.Bools.{clash, not-true, not-false}
@@ -16,7 +16,7 @@ use Rattle.meaning.specs.Block.{has, canBeBlockString, blockString}
 use Rattle.meaning.specs.Literal.{takesBlock, literal}
 use Rattle.meaning.specs.Demand.{lineFeeds, quotedBound, blockBound}
 use Rattle.literal_laws.specs.QuotedBound.{quoted-bound}
-use Rattle.literal_laws.specs.BlockBound.{block-bound}
+use Rattle.literal_laws.specs.BlockBound.{few-feeds, block-bound}
 use Rattle.literal_laws.specs.Bounded.{length-of-times}
 use Rattle.pen.specs.Put.{last}
 use Rattle.literal.specs.declared.Fit.{Fit}
@@ -56,15 +56,6 @@ fits-needs t room n e h = rw (lt-leb (length t) room (omega arith), e)
 pub sure-fit : (b : Bool) (ind v : List ℕ) (room : ℕ) → b ≡ false → 6 * length v + 2 ≤ room → length (chosen b ind v) ≤ room
 unfolding chosen
 sure-fit b ind v room e h = let k : length (quoted v) ≤ 6 * length v + 2 = unfold quotedBound in quoted-bound v in rw e (omega arith)
-
-few-feeds : (v : List ℕ) → lineFeeds v ≤ length v
-unfolding lineFeeds
-few-feeds [] = omega arith
-few-feeds (b ∷ v) = go (eqb b lineFeed) (few-feeds v)
-  where
-    go : (x : Bool) → lineFeeds v ≤ length v → (if x then suc (lineFeeds v) else lineFeeds v) ≤ suc (length v)
-    go true h = omega arith
-    go false h = omega arith
 
 -- far below 2^64
 pub chosen-is-short : (b : Bool) (p : List ℕ) (l : ℕ) (v : List ℕ) → length v ≤ 65536 → length p ≤ 16 → l ≤ 128 → length (chosen b (times l p) v) ≤ last

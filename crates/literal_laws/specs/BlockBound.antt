@@ -71,6 +71,9 @@ lines-are-counted (b ∷ v) = go (eqb b lineFeed) (lines-are-counted v)
     go true i = (omega (arith, i .0), unfold size in omega (arith, i .1))
     go false i = let o = onto-adds-one b (lines v) (there-is-a-line v) in (omega (arith, i .0, o .0), omega (arith, i .1, o .1))
 
+pub few-feeds : (v : List ℕ) → lineFeeds v ≤ length v
+few-feeds v = omega (arith, lines-are-counted v .1)
+
 several-lines-bound : (ind v : List ℕ)
     → length (tripleQuote ++ (blockLines ind (lines v) ++ ((lineFeed ∷ ind) ++ tripleQuote)))
     ≤ blockBound (length v) (lineFeeds v) (length ind)
