@@ -68,14 +68,14 @@ above-both {w} s i j k h a b l e =
     and-both (ltb k j) (ltb j (endAt w k)) (lt-ltb k j (omega arith)) (lt-ltb j (endAt w k) (omega (arith, s .nested k i (omega arith) l inside)))
 
 -- a node inside i's subtree is deeper than i
-deeper-inside : {w p : List ℕ} → Shaped w p → (i j : ℕ) → i < nodes w → i < j → j < endAt w i → depthAt w i + 1 ≤ depthAt w j
+deeper-inside : {w p : List ℕ} → Shaped w p → (i : ℕ) → i < nodes w → (j : ℕ) → i + 1 ≤ j → j < endAt w i → depthAt w i + 1 ≤ depthAt w j
 unfolding depthAt
-deeper-inside {w} s i j h a b =
-    let all = count-all (isAbove w i) (isAbove w j) i (λ k. above-both s i j k h a b) in
-    omega (arith, count-past (isAbove w j) i j here a)
+deeper-inside {w} s i h j a b =
+    let all = count-all (isAbove w i) (isAbove w j) i (λ k. above-both s i j k h (omega arith) b) in
+    omega (arith, count-past (isAbove w j) i j here (omega arith))
   where
     here : isAbove w j i ≡ true
-    here = unfold isAbove in and-both (ltb i j) (ltb j (endAt w i)) (lt-ltb i j a) (lt-ltb j (endAt w i) b)
+    here = unfold isAbove in and-both (ltb i j) (ltb j (endAt w i)) (lt-ltb i j (omega arith)) (lt-ltb j (endAt w i) b)
 
 -- ---- heights
 
@@ -95,11 +95,9 @@ module _ {w p : List ℕ} (ok : Accepted w p) where
             let up : i < endAt w i = shaped .above i hi in
             let to : endAt w i ≤ e = r .whole i (omega arith) k in
             let here : d ≤ depthAt w i = deep i (omega arith) k in
-            let below =
-            heights-in n (i + 1) (endAt w i) (d + 1) (children-range shaped i hi) (omega arith)
-            (omega (arith, accepted-depth ok i hi))
-            (λ j a c. omega (arith, deeper-inside shaped i j hi (omega arith) c))
-            in
+            let room : d + 1 ≤ 65 = omega (arith, accepted-depth ok i hi) in
+            let inside = deeper-inside shaped i hi in
+            let below = heights-in n (i + 1) (endAt w i) (d + 1) (children-range shaped i hi) (omega arith) room (λ j a c. omega (arith, inside j a c)) in
             let after = heights-in n (endAt w i) e d (rest-range shaped r k) (omega arith) top (λ j a c. deep j (omega arith) c) in
             rw (forest-more shaped r k) (omega (arith, tall-below w p i))
       ]
@@ -107,11 +105,9 @@ module _ {w p : List ℕ} (ok : Accepted w p) where
   -- a node's depth and the height of its tree
   pub depth-and-height : (i : ℕ) → i < nodes w → depthAt w i + height (treeAt w p i) ≤ 65
   depth-and-height i h =
-      let below =
-      heights-in (endAt w i - (i + 1)) (i + 1) (endAt w i) (depthAt w i + 1) (children-range shaped i h) (omega arith)
-      (omega (arith, accepted-depth ok i h))
-      (λ j a c. deeper-inside shaped i j h (omega arith) c)
-      in
+      let room : depthAt w i + 1 ≤ 65 = omega (arith, accepted-depth ok i h) in
+      let inside = deeper-inside shaped i h in
+      let below = heights-in (endAt w i) (i + 1) (endAt w i) (depthAt w i + 1) (children-range shaped i h) (omega arith) room inside in
       omega (arith, tall-below w p i)
 
   pub accepted-height : height (treeOf w p) ≤ 65
