@@ -1,2 +1,4 @@
 pub mod Rules
 pub mod Pieces
+pub mod Parts
+pub mod Document
