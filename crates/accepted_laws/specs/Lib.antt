@@ -1,3 +1,4 @@
 pub mod Shape
 pub mod Depth
 pub mod Size
+pub mod Inside
