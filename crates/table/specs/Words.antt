@@ -10,6 +10,11 @@ pub record InTable (w : List ℕ) (i : ℕ) : Type 0 where
   pub words : i * 5 + 5 ≤ length w
   pub few : i < 8192
 
+-- and its text lies in the pool
+pub record TextInPool (w p : List ℕ) (i : ℕ) : Type 0 where
+  pub node : InTable w i
+  pub inPool : startAt w i + lengthAt w i ≤ length p
+
 -- r is the word, and small
 pub record Small (r word : ℕ) : Type 0 where
   pub is : r ≡ word

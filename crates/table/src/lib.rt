@@ -1,7 +1,8 @@
 // The words of a node.
+ghost use mathlib.Core.Path.{_≡_};
 ghost use Prim.Native.Nat.{_<_};
-ghost use Rattle.meaning.specs.Table.{word, kindAt, variantAt, startAt, lengthAt, endAt};
-ghost use Rattle.table.specs.Words.{InTable, Small};
+ghost use Rattle.meaning.specs.Table.{word, kindAt, variantAt, startAt, lengthAt, endAt, textAt};
+ghost use Rattle.table.specs.Words.{InTable, TextInPool, Small};
 use meaning::NodeNumber;
 
 const WORDS_PER_NODE: usize = 5;
@@ -47,4 +48,14 @@ pub fn end(words: &[u32], i: NodeNumber) -> usize
     ensures { λ r. ⌜ Small r (endAt (now (words .entry)) (i .0)) ⌝ }
 {
     word_at(words, i, 4)
+}
+
+// The bytes of the pool that a node names.
+pub fn text<'a>(words: &[u32], pool: &'a [u8], i: NodeNumber) -> &'a [u8]
+    requires { ⌜ TextInPool (now words) (now pool) (i .0) ⌝ }
+    ensures { λ r. ⌜ now r ≡ textAt (now (words .entry)) (now (pool .entry)) (i .0) ⌝ }
+{
+    let from = start(words, i);
+    let to = from + length(words, i);
+    &pool[from..to]
 }

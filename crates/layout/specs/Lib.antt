@@ -1,0 +1,7 @@
+pub mod Kids
+pub mod Classes
+pub mod Written
+pub mod Jobs
+pub mod Did
+pub mod Runs
+pub mod Marks
