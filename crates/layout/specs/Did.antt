@@ -7,11 +7,12 @@ use Prim.Native.Nat.{ℕ, zero, suc, _+_, _≤_, _<_}
 use native.Mathlib.Omega.{arith}
 use native.Mathlib.Decide.{decLt}
 use lib.Dec.{leb, eqb}
-use lib.ListN.{length, length-append}
+use lib.ListN.{length, length-append, getD, List·getD-eq-default}
 use borrow.Author.Tests.{leb-true, le-leb}
 use Rattle.base.specs.Bools.{clash, and-left, and-right, and-both}
 use Rattle.meaning.specs.Ascii.{if_then_else_, space as aSpace}
-use Rattle.meaning.specs.Settings.{Settings, newLineOrSpace as lineOrSpace}
+use Rattle.meaning.specs.Settings.{Settings, settings, newLineOrSpace as lineOrSpace}
+use Rattle.meaning.specs.Literal.{literal as literalText}
 use Rattle.meaning.specs.Tree.{Head}
 use Rattle.meaning.specs.Table.{kindAt, variantAt, endAt, textAt, headAt, treeAt}
 use Rattle.meaning.specs.Children.{Class, isIn, starts, rest}
@@ -20,8 +21,8 @@ use Rattle.meaning.specs.Layout.{Child, childIn, isEmpty, partText, partRest, p
 use Rattle.pen.specs.Wrote.{Wrote, wrote-as, _⨾_ as _then_}
 use Rattle.layout.specs.declared.Walk.{Walk}
 use Rattle.layout.specs.Kids.{kids, kids-none, kids-more, nextIs, next-none, next-some}
-use Rattle.layout.specs.Written.{Kept}
-use Rattle.layout.specs.Jobs.{Rest}
+use Rattle.layout.specs.Written.{Kept, kept-as}
+use Rattle.layout.specs.Jobs.{Ranged, Rest}
 
 -- ---- parts one after the other
 
@@ -242,14 +243,17 @@ plain-part s h (ifNext c n) rs z = clash z refl
 plain-part s h (ifText n) rs z = clash z refl
 plain-part s h (ifVariant n) rs z = clash z refl
 
-module _ (s : Settings) (h : Head) (rs : List Child) where
-  plain-closes : (ps : List Part) → allPlain ps ≡ true → closes ps ≡ true
-  plain-closes [] z = refl
-  plain-closes (x ∷ ps) z =
-      and-both (leb (leavesOut x) (length ps)) (closes ps)
-      (le-leb (leavesOut x) (length ps) (omega (arith, plain-part s h x rs (and-left (isPlain x) (allPlain ps) z) .leaves)))
-      (plain-closes ps (and-right (isPlain x) (allPlain ps) z))
+pub plain-close : (ps : List Part) → allPlain ps ≡ true → closes ps ≡ true
+plain-close [] z = refl
+plain-close (x ∷ ps) z =
+    let k = plain-part (settings false [] 0) (record { kind = 0; variant = 0; text = [] }) x [] (and-left (isPlain x) (allPlain ps) z) in
+    and-both
+    (leb (leavesOut x) (length ps))
+    (closes ps)
+    (le-leb (leavesOut x) (length ps) (omega (arith, k .leaves)))
+    (plain-close ps (and-right (isPlain x) (allPlain ps) z))
 
+module _ (s : Settings) (h : Head) (rs : List Child) where
   plain-said : (ps : List Part) → allPlain ps ≡ true → bytes ps ≡ said s h 0 ps rs
   unfolding said
   plain-said [] z = refl
@@ -264,10 +268,13 @@ module _ (s : Settings) (h : Head) (rs : List Child) where
       let k = plain-part s h x rs (and-left (isPlain x) (allPlain ps) z) in
       rw (k .rest, k .skip) (plain-after ps (and-right (isPlain x) (allPlain ps) z))
 
+pub plain-and-name-close : (ps : List Part) → allPlain ps ≡ true → closes (ps ++ text ∷ []) ≡ true
+plain-and-name-close ps z = closes-both ps (text ∷ []) (plain-close ps z) refl
+
 front-closes : (x : Part) (ps : List Part) → leavesOut x ≡ length ps → closes ps ≡ true → closes (x ∷ ps) ≡ true
 front-closes x ps z c = and-both (leb (leavesOut x) (length ps)) (closes ps) (le-leb (leavesOut x) (length ps) (omega (arith, z))) c
 
-pub starts-next : {w p : List ℕ} {i e b : ℕ} → Rest w p i e b → (c : Class) → starts childIn c (kids w p i e) ≡ nextIs w c i e
+pub starts-next : {w p : List ℕ} {i e : ℕ} → Ranged w p i e → (c : Class) → starts childIn c (kids w p i e) ≡ nextIs w c i e
 unfolding childIn headAt
 starts-next {w} {p} {i} {e} j c =
     elim (decLt i e) [
@@ -289,11 +296,28 @@ module _ {w p : List ℕ} {s : Settings} {n e : ℕ} {d : List ℕ} {at : Walk} 
   did-tokens ps z k =
       let h = headAt w p n in
       let rs = kids w p (at .node .0) e in
-      record { closed = plain-closes s h rs ps z; walked = walked-as (plain-said s h rs ps z) (plain-after s h rs ps z) (kept-walked k) }
+      record { closed = plain-close ps z; walked = walked-as (plain-said s h rs ps z) (plain-after s h rs ps z) (kept-walked k) }
 
   pub did-name : Kept d at (textAt w p n) d′ r → Did w p s n e (text ∷ []) d at d′ r
   unfolding partText partRest headAt
   did-name k = did-part text refl (kept-walked k)
+
+  pub did-literal : (x : Bool) → Kept d at (literalText s x (textAt w p n)) d′ r → Did w p s n e (literal x ∷ []) d at d′ r
+  unfolding partText partRest headAt
+  did-literal x k = did-part (literal x) refl (kept-walked k)
+
+  pub did-words : (ts : List (List ℕ)) → Kept d at (getD ts (variantAt w n) []) d′ r → Did w p s n e (words ts ∷ []) d at d′ r
+  unfolding partText partRest headAt
+  did-words ts k = did-part (words ts) refl (kept-walked k)
+
+  -- the word that the variant chooses, or none
+  pub did-chosen : (ts : List (List ℕ)) {v : ℕ} → v ≡ variantAt w n → (k : ℕ) → v ≡ k → Kept d at (getD ts k []) d′ r
+      → Did w p s n e (words ts ∷ []) d at d′ r
+  did-chosen ts z k y x = did-words ts (kept-as (ap (λ (v : ℕ). getD ts v []) (sym y ∙ z)) x)
+
+  pub did-none-chosen : (ts : List (List ℕ)) {v : ℕ} → v ≡ variantAt w n → length ts ≤ v → Kept d at [] d′ r
+      → Did w p s n e (words ts ∷ []) d at d′ r
+  did-none-chosen ts z l x = did-words ts (kept-as (sym (List·getD-eq-default ts [] l) ∙ ap (λ (v : ℕ). getD ts v []) z) x)
 
   pub did-line : Kept d at (lineOrSpace s) d′ r → Did w p s n e (newLineOrSpace ∷ []) d at d′ r
   unfolding partText partRest
@@ -326,7 +350,7 @@ module _ {w p : List ℕ} {s : Settings} {n e : ℕ} {d : List ℕ} {at : Walk} 
     walked = walked-as (rw (q .0, q .1, q .2)) (rw (q .0, q .2)) (k .walked);
   }
 
-  module _ (ps : List Part) {b : ℕ} (j : Rest w p (at .node .0) e b) (c : Class) where
+  module _ (ps : List Part) (j : Ranged w p (at .node .0) e) (c : Class) where
     pub no-child : closes ps ≡ true → nextIs w c (at .node .0) e ≡ false → Kept d at [] d′ r → Did w p s n e (ifNext c (length ps) ∷ ps) d at d′ r
     unfolding partText partRest partSkip
     no-child k z = skipped (ifNext c (length ps)) ps refl k (rw (starts-next j c, z), refl, refl)

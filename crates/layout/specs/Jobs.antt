@@ -127,6 +127,9 @@ module _ {w p : List ℕ} {i e : ℕ} (r : Ranged w p i e) where
   pub ranged-node : i < e → InTable w i
   ranged-node h = node-in-table (r .shaped) (ranged-inside h)
 
+  pub ranged-text : i < e → TextInPool w p i
+  ranged-text h = record { node = ranged-node h; inPool = r .shaped .texts i (ranged-inside h) }
+
   pub ranged-on : {k : ℕ} → i < e → k ≡ endAt w i → Ranged w p k e
   ranged-on {k} h at = rw at (ranged (r .shaped) (rest-range (r .shaped) (r .range) h))
 

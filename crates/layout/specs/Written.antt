@@ -5,6 +5,8 @@ use mathlib.Core.List.{List, [], _∷_, _++_}
 use Prim.Native.Nat.{ℕ}
 use Rattle.meaning.specs.Ascii.{if_then_else_, ascii, lineFeed, space}
 use Rattle.meaning.specs.Settings.{Settings, settings, times, newLine, newLineOrSpace, indentation}
+use Rattle.meaning.specs.Table.{endAt}
+use Rattle.table.specs.Words.{InTable}
 use Rattle.pen.specs.Wrote.{Ready, Wrote, wrote-as, wrote-none, _⨾_}
 use Rattle.layout.specs.declared.State.{State}
 use Rattle.layout.specs.declared.Walk.{Walk}
@@ -32,6 +34,11 @@ pub record Kept (d : List ℕ) (at : Walk) (t d′ : List ℕ) (r : Walk) : Type
   pub wrote : Wrote d (at .pen) t d′ (r .pen)
   pub node : r .node .0 ≡ at .node .0
 
+-- nothing was written, and the walk stands past its child
+pub record Past (w : List ℕ) (at r : Walk) : Type 0 where
+  pub pen : r .pen ≡ at .pen
+  pub node : r .node .0 ≡ endAt w (at .node .0)
+
 pub kept-none : {d : List ℕ} {at : Walk} → Ready d (at .pen) → Kept d at [] d at
 kept-none r = record { wrote = wrote-none r; node = refl }
 
@@ -41,6 +48,9 @@ kept-both x y = record { wrote = x .wrote ⨾ y .wrote; node = y .node ∙ x .no
 
 pub kept-as : {d : List ℕ} {at : Walk} {t u d′ : List ℕ} {r : Walk} → t ≡ u → Kept d at t d′ r → Kept d at u d′ r
 kept-as e x = record { wrote = wrote-as (x .wrote) e; node = x .node }
+
+pub kept-in-table : {d : List ℕ} {at : Walk} {t d′ : List ℕ} {r : Walk} (w : List ℕ) → Kept d at t d′ r → InTable w (at .node .0) → InTable w (r .node .0)
+kept-in-table w x i = rw (x .node) i
 
 -- ---- new lines, breaks on and off
 

@@ -5,11 +5,11 @@ ghost use Prim.Native.Nat.{ℕ, _<_};
 ghost use Rattle.meaning.specs.Settings.{newLine, newLineOrSpace, deeper, onSingleLine};
 ghost use Rattle.meaning.specs.Table.{textAt};
 ghost use Rattle.meaning.specs.Children.{a, selection, value, isIn};
-ghost use Rattle.table.specs.Words.{TextInPool};
+ghost use Rattle.table.specs.Words.{InTable, TextInPool};
 ghost use Rattle.layout.specs.Classes.{meant};
 ghost use Rattle.layout.specs.declared.Gap.the-variants.{Comma};
 ghost use Rattle.layout.specs.Kids.{nextIs};
-ghost use Rattle.layout.specs.Written.{under, gapText, lastComma, Kept};
+ghost use Rattle.layout.specs.Written.{under, gapText, lastComma, Kept, Past};
 ghost use Rattle.layout.specs.Jobs.{Within, Ranged};
 ghost use Rattle.layout.specs.Marks.{markAmong, markedRun};
 use meaning::NodeNumber;
@@ -211,4 +211,18 @@ pub fn any_marked(words: &[u32], pool: &[u8], from: NodeNumber, to: NodeNumber) 
         i = end;
     }
     false
+}
+
+// Past the next child.
+pub fn past(words: &[u32], at: Walk) -> Walk
+    requires { ⌜ InTable (now words) (at .node .0) ⌝ }
+    ensures { λ r. ⌜ Past (now (words .entry)) at r ⌝ }
+{
+    let node = at.node;
+    let pen = at.pen;
+    let end = table::end(words, node);
+    Walk {
+        node: NodeNumber(end),
+        pen: pen,
+    }
 }

@@ -31,89 +31,89 @@ pub data Part : Type 0 where
 
 -- ---- combinators
 
-abbrev token : String → List Part
+abbrev pub token : String → List Part
 token s = tok (ascii s) ∷ []
 
-abbrev spelled : List String → List (List ℕ)
+abbrev pub spelled : List String → List (List ℕ)
 spelled [] = []
 spelled (s ∷ ss) = ascii s ∷ spelled ss
 
-abbrev oneOf : List String → List Part
+abbrev pub oneOf : List String → List Part
 oneOf ss = words (spelled ss) ∷ []
 
-abbrev sp : List Part
+abbrev pub sp : List Part
 sp = space ∷ []
 
-abbrev name : List Part
+abbrev pub name : List Part
 name = text ∷ []
 
-abbrev child : Class → List Part
+abbrev pub child : Class → List Part
 child c = one c ∷ []
 
-abbrev optional : Class → List Part → List Part
+abbrev pub optional : Class → List Part → List Part
 optional c ps = ifNext c (length ps) ∷ ps
 
-abbrev ifNamed : List Part → List Part
+abbrev pub ifNamed : List Part → List Part
 ifNamed ps = ifText (length ps) ∷ ps
 
-abbrev ifOne : List Part → List Part
+abbrev pub ifOne : List Part → List Part
 ifOne ps = ifVariant (length ps) ∷ ps
 
 -- `serialize_description`
-abbrev description : List Part
+abbrev pub description : List Part
 description = optional (a Kind.description) (child (a Kind.description) ++ newLineOrSpace ∷ [])
 
 -- `DirectiveList`
-abbrev directives : List Part
+abbrev pub directives : List Part
 directives = spaced (a Kind.directive) ∷ []
 
 -- `serialize_arguments`, the variables of an operation, `serialize_arguments_definition`
-abbrev parenthesized : Lines → ℕ → List Part
+abbrev pub parenthesized : Lines → ℕ → List Part
 parenthesized l k = optional (a k) (commaSeparated l (ascii "(") (ascii ")") (a k) ∷ [])
 
-abbrev arguments : List Part
+abbrev pub arguments : List Part
 arguments = parenthesized singleLine Kind.argument
 
-abbrev variables : List Part
+abbrev pub variables : List Part
 variables = parenthesized singleLine Kind.variableDefinition
 
-abbrev argumentDefinitions : List Part
+abbrev pub argumentDefinitions : List Part
 argumentDefinitions = parenthesized singleLineUnlessMarked Kind.inputValueDefinition
 
 -- `curly_brackets_space_separated`, and the same where there may be nothing to put in
-abbrev braces : Class → List Part
+abbrev pub braces : Class → List Part
 braces c = sp ++ curlyBrackets c ∷ []
 
-abbrev optionalBraces : Class → List Part
+abbrev pub optionalBraces : Class → List Part
 optionalBraces c = optional c (braces c)
 
 -- `first`, then ` | member` for each of the rest
-abbrev listed : Class → String → List Part
+abbrev pub listed : Class → String → List Part
 listed c s = child c ++ separated (ascii s) c ∷ []
 
-abbrev implements : List Part
+abbrev pub implements : List Part
 implements = optional (a Kind.interfaceName) (sp ++ token "implements" ++ sp ++ listed (a Kind.interfaceName) "&")
 
-abbrev members : List Part
+abbrev pub members : List Part
 members = optional (a Kind.unionMember) (sp ++ token "=" ++ sp ++ listed (a Kind.unionMember) "|")
 
-abbrev ofType : List Part
+abbrev pub ofType : List Part
 ofType = token ":" ++ sp ++ child type
 
-abbrev defaultValue : List Part
+abbrev pub defaultValue : List Part
 defaultValue = optional value (sp ++ token "=" ++ sp ++ child value)
 
-abbrev ofValue : List Part
+abbrev pub ofValue : List Part
 ofValue = token ":" ++ sp ++ child value
 
-abbrev operationType : List Part
+abbrev pub operationType : List Part
 operationType = oneOf ("query" ∷ "mutation" ∷ "subscription" ∷ [])
 
 -- `Type`'s `!`
-abbrev nonNull : List Part
+abbrev pub nonNull : List Part
 nonNull = ifOne (token "!")
 
-abbrev locationName : List Part
+abbrev pub locationName : List Part
 locationName =
     oneOf (
     "QUERY" ∷ "MUTATION" ∷ "SUBSCRIPTION" ∷ "FIELD" ∷ "FRAGMENT_DEFINITION" ∷ "FRAGMENT_SPREAD" ∷ "INLINE_FRAGMENT"
@@ -121,32 +121,32 @@ locationName =
     ∷ "UNION" ∷ "ENUM" ∷ "ENUM_VALUE" ∷ "INPUT_OBJECT" ∷ "INPUT_FIELD_DEFINITION" ∷ []
     )
 
-abbrev locations : List Part
+abbrev pub locations : List Part
 locations = sp ++ token "on" ++ sp ++ listed (a Kind.location) "|"
 
-abbrev directiveDefinition : List Part
+abbrev pub directiveDefinition : List Part
 directiveDefinition = token "directive" ++ sp ++ token "@" ++ name ++ argumentDefinitions ++ ifOne (sp ++ token "repeatable") ++ locations
 
 -- ---- what definitions and extensions share
 
-abbrev scalar : List Part
+abbrev pub scalar : List Part
 scalar = token "scalar" ++ sp ++ name ++ directives
 
 -- `serialize_object_type_like`
-abbrev objectLike : String → List Part
+abbrev pub objectLike : String → List Part
 objectLike keyword = token keyword ++ sp ++ name ++ implements ++ directives ++ optionalBraces (a Kind.fieldDefinition)
 
 -- `serialize_union`
-abbrev union : List Part
+abbrev pub union : List Part
 union = token "union" ++ sp ++ name ++ directives ++ members
 
-abbrev enum : List Part
+abbrev pub enum : List Part
 enum = token "enum" ++ sp ++ name ++ directives ++ optionalBraces (a Kind.enumValueDefinition)
 
-abbrev inputObject : List Part
+abbrev pub inputObject : List Part
 inputObject = token "input" ++ sp ++ name ++ directives ++ optionalBraces (a Kind.inputValueDefinition)
 
-abbrev extend : List Part
+abbrev pub extend : List Part
 extend = token "extend" ++ sp
 
 -- ---- the rules
