@@ -116,11 +116,11 @@ inner-slots w (s ∷ ss) h =
     (λ x. inner-kind (asked s) (and-left _ _ h) (kindAt w x) (variantAt w x), inner-slots w ss (and-right (isInner (asked s)) _ h))
 
 -- the children are as listed
-listed : (w : List ℕ) (i : ℕ) → childrenFault w i ≡ false → fill (nodeIn w) (rowOf (kindAt w i) .children) (childrenAt w i) ≡ true
+pub listed : (w : List ℕ) (i : ℕ) → childrenFault w i ≡ false → fill (nodeIn w) (rowOf (kindAt w i) .children) (childrenAt w i) ≡ true
 unfolding childrenFault notAsListed
 listed w i h = not-false _ (or-left-false _ _ (or-left-false _ (variableFault w i) h))
 
-first-sibling : (n : ℕ) (w : List ℕ) (i e : ℕ) → i < e → siblings (suc n) w i e ≡ i ∷ siblings n w (endAt w i) e
+pub first-sibling : (n : ℕ) (w : List ℕ) (i e : ℕ) → i < e → siblings (suc n) w i e ≡ i ∷ siblings n w (endAt w i) e
 unfolding siblings
 first-sibling n w i e h = rw (lt-ltb i e h, siblings)
 
@@ -137,7 +137,7 @@ module _ {w p : List ℕ} (ok : Accepted w p) where
   shaped : Shaped w p
   shaped = accepted-shaped ok
 
-  no-children-fault : (i : ℕ) → i < nodes w → childrenFault w i ≡ false
+  pub no-children-fault : (i : ℕ) → i < nodes w → childrenFault w i ≡ false
   unfolding hasFault
   no-children-fault = ok .none 6
 

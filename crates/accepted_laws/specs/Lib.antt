@@ -2,3 +2,4 @@ pub mod Shape
 pub mod Depth
 pub mod Size
 pub mod Inside
+pub mod Lists

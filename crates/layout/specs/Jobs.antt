@@ -7,6 +7,7 @@ use lib.ListN.{length}
 use Rattle.meaning.specs.Table.{nodes, kindAt, endAt, forest, treeAt}
 use Rattle.tree_laws.specs.Height.{height, heights}
 use Rattle.tree_laws.specs.Forest.{Shaped, Range, children-range, rest-range, tall-first, tall-rest, tall-below}
+use Rattle.tree_laws.specs.Lists.{ListsHoldTypes}
 use Rattle.table.specs.Words.{InTable, TextInPool}
 use Rattle.quoted.specs.Classes.{classes}
 
@@ -25,6 +26,7 @@ pub record Rest (w p : List ℕ) (i e d : ℕ) : Type 0 where
 -- they are to be printed at level l; t is the table of byte classes
 pub record Jobs (t w p : List ℕ) (i e d l : ℕ) : Type 0 where
   pub rest : Rest w p i e d
+  pub lists : ListsHoldTypes w
   pub level : l + d < 256
   pub table : t ≡ classes
 
@@ -34,6 +36,7 @@ pub record Job (t w p : List ℕ) (i d l : ℕ) : Type 0 where
   pub inside : i < nodes w
   pub deep : height (treeAt w p i) ≤ d
   pub below : (j : ℕ) → i < j → j < endAt w i → 17 < kindAt w j
+  pub lists : ListsHoldTypes w
   pub level : l + d < 256
   pub table : t ≡ classes
 
@@ -77,16 +80,17 @@ children-jobs {t} {w} {p} {i} {d} {l} j at =
         deep = omega (arith, tall-below w p i, j .deep);
         inner = λ k a b. j .below k (omega arith) b;
       };
+      lists = j .lists;
       level = omega (arith, j .level, job-deep j);
       table = j .table;
     }
     in rw at z
 
 pub here : {t w p : List ℕ} {i e d l : ℕ} → Jobs t w p i e d (l + 1) → Jobs t w p i e d l
-here j = record { rest = j .rest; level = omega (arith, j .level); table = j .table }
+here j = record { rest = j .rest; lists = j .lists; level = omega (arith, j .level); table = j .table }
 
 pub jobs-on : {t w p : List ℕ} {i e d l k : ℕ} → Jobs t w p i e d l → Rest w p k e d → Jobs t w p k e d l
-jobs-on j r = record { rest = r; level = j .level; table = j .table }
+jobs-on j r = record { rest = r; lists = j .lists; level = j .level; table = j .table }
 
 pub first-job : {t w p : List ℕ} {i e d l : ℕ} → Jobs t w p i e d l → i < e → Job t w p i d l
 first-job {t} {w} {p} {i} {e} j h =
@@ -97,6 +101,7 @@ first-job {t} {w} {p} {i} {e} j h =
       inside = rest-inside (j .rest) h;
       deep = omega (arith, j .rest .deep, tall-first s r h);
       below = λ k a b. j .rest .inner k (omega arith) (omega (arith, r .whole i (omega arith) h));
+      lists = j .lists;
       level = j .level;
       table = j .table;
     }

@@ -1,3 +1,4 @@
 pub mod Height
 pub mod Forest
 pub mod Size
+pub mod Lists
