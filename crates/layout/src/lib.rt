@@ -2,6 +2,7 @@
 ghost use mathlib.Core.Path.{_≡_};
 ghost use mathlib.Core.List.{List};
 ghost use Prim.Native.Nat.{ℕ, _<_};
+ghost use Rattle.meaning.specs.Ascii.{if_then_else_};
 ghost use Rattle.meaning.specs.Settings.{newLine, newLineOrSpace, deeper, onSingleLine};
 ghost use Rattle.meaning.specs.Table.{textAt};
 ghost use Rattle.meaning.specs.Children.{a, selection, value, isIn};
@@ -134,6 +135,15 @@ pub fn on_single_line(state: State) -> State
         breaks: false,
         level: state.level,
     }
+}
+
+pub fn single_line_unless(marked: bool, state: State) -> State
+    ensures { λ r. ⌜ ((p : List ℕ) → under r p ≡ (if marked then under state p else onSingleLine (under state p))) ⌝ }
+{
+    if marked {
+        return state;
+    }
+    on_single_line(state)
 }
 
 fn is_selection(kind: usize) -> bool

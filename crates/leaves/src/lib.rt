@@ -6,7 +6,7 @@ ghost use Prim.Native.Nat.{ℕ};
 ghost use Rattle.meaning.specs.Literal.{literal};
 ghost use Rattle.meaning.specs.Settings.{Settings};
 ghost use Rattle.meaning.specs.Table.{textAt};
-ghost use Rattle.meaning.specs.Rules.{Part, text, ifNamed, ifOne, description, operationType, locationName};
+ghost use Rattle.meaning.specs.Rules.{Part, text, ifNamed, ifOne, description, operationType, locationName, ruleOf};
 ghost use Rattle.table.specs.Words.{InTable, TextInPool};
 ghost use Rattle.layout.specs.Written.{under, Kept};
 ghost use Rattle.layout.specs.Jobs.{Ranged};
@@ -168,4 +168,34 @@ pub fn location(words: &[u32], node: NodeNumber, out: &mut [u8], at: Walk) -> Wa
         18 => layout::token(out, at, b"INPUT_FIELD_DEFINITION"),
         _ => at,
     }
+}
+
+// The type of a root operation: `query: Query`.
+pub fn root_operation(
+    words: &[u32],
+    pool: &[u8],
+    node: NodeNumber,
+    out: &mut [u8],
+    at: Walk,
+) -> Walk
+    requires { ⌜ TextInPool (now words) (now pool) (node .0) ⌝ }
+    ensures { λ r. ⌜ ((s : Settings) (e : ℕ) → Did (now (words .entry)) (now (pool .entry)) s (node .0) e (ruleOf 25) (now (out .entry)) at (now (out .exit)) r) ⌝ }
+{
+    let a = operation_type(words, node, out, at);
+    let b = layout::token(out, a, b": ");
+    layout::name(words, pool, node, out, b)
+}
+
+pub fn variable_value(
+    words: &[u32],
+    pool: &[u8],
+    node: NodeNumber,
+    out: &mut [u8],
+    at: Walk,
+) -> Walk
+    requires { ⌜ TextInPool (now words) (now pool) (node .0) ⌝ }
+    ensures { λ r. ⌜ ((s : Settings) (e : ℕ) → Did (now (words .entry)) (now (pool .entry)) s (node .0) e (ruleOf 39) (now (out .entry)) at (now (out .exit)) r) ⌝ }
+{
+    let a = layout::token(out, at, b"$");
+    layout::name(words, pool, node, out, a)
 }
