@@ -124,7 +124,7 @@ module _ (h : Head) where
   after-none [] rs = refl
   after-none (p ∷ ps) rs = after-none ps rs
 
-closes-both : (ps qs : List Part) → closes ps ≡ true → closes qs ≡ true → closes (ps ++ qs) ≡ true
+pub closes-both : (ps qs : List Part) → closes ps ≡ true → closes qs ≡ true → closes (ps ++ qs) ≡ true
 closes-both [] qs e f = f
 closes-both (p ∷ ps) qs e f =
     let l : leavesOut p ≤ length ps = leb-true (leavesOut p) (length ps) (and-left (leb (leavesOut p) (length ps)) (closes ps) e) in

@@ -1,0 +1,42 @@
+-- `definitions::scalar` meets its contract: the parts of its rule, one after the other.
+use Rattle.definitions.specs.Segments.{body, did-separated, parts-kept, parts-walked}
+use Rattle.serialize.specs.Parts.{Parts, jobs-kept, jobs-walked, did-one, did-spaced, did-braces}
+use Rattle.layout.specs.Did.{_⨾_, did-tokens, did-name, a-child, no-child, node-written}
+use Rattle.layout.specs.Jobs.{rest-within, rest-ranged, here}
+use Rattle.layout.specs.Written.{kept-none, kept-as}
+use Rattle.pen.specs.Wrote.{wrote-length}
+use Rattle.meaning.specs.Rules.{token, sp, separated, child, ruleOf}
+use Rattle.meaning.specs.Children.{a, type, namedType, selection}
+use Rattle.meaning.specs.Settings.{defaultSettings}
+use Rattle.meaning.specs.Ascii.{ascii}
+use native.Mathlib.Omega.{arith}
+use Prim.Native.Nat.{_+_, _-_}
+use mathlib.Core.List.{List, [], _∷_, _++_}
+use mathlib.Core.Path.{_≡_, refl, sym, ap, _∙_}
+use borrow.Author.Needs.{needs}
+use Rattle.definitions.proofs.scalar.Statement.{statement}
+use Rattle.definitions.proofs.scalar.Tie as tie
+
+slice-aggregate-token : tie.Need-slice-aggregate-token
+slice-aggregate-token c = search needs
+
+token-requires : tie.Need-token-requires
+token-requires c κs = search needs
+
+name-requires : tie.Need-name-requires
+name-requires c κs = (c .before .before .before .before .before .before .before .before .before .before .pre) .text
+
+each-requires : tie.Need-each-requires
+each-requires c κs = here (jobs-kept (jobs-kept ((c .before .before .before .before .before .before .before .before .before .before .before .before .before .before .pre) .jobs) ((c .before .before .before .before .before .before .before .token) .ensures)) ((c .before .before .before .name) .ensures))
+
+returns : tie.Need-returns
+unfolding body
+returns c = did-tokens (token "scalar" ++ sp) refl ((c .before .before .before .before .before .before .before .before .before .before .token) .ensures) ⨾ did-name ((c .before .before .before .before .before .before .name) .ensures) ⨾ did-spaced _ ((c .before .before .each) .ensures)
+
+same-length : tie.Need-same-length
+same-length c = wrote-length (returns c .walked .wrote)
+
+pub scalar-spec : {M : Type 1} → statement M
+scalar-spec =
+    tie.close
+    (tie.spec slice-aggregate-token token-requires name-requires each-requires same-length returns)
