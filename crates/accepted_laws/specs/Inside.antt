@@ -28,7 +28,7 @@ asked (some c) = c
 -- ---- children that fill slots
 
 -- each has the property
-abbrev Each : {X : Type 0} → (X → Type 0) → List X → Type 0
+abbrev pub Each : {X : Type 0} → (X → Type 0) → List X → Type 0
 Each P [] = Unit {0}
 Each P (x ∷ xs) = P x × Each P xs
 
@@ -49,7 +49,7 @@ module _ {X : Type 0} (test : Class → X → Bool) (P : X → Type 0) where
       go false e h ih = h
 
   -- children that fill slots have it, where the slots' classes do
-  filled-each : (ss : List Slot) → Each (λ s. Has (asked s)) ss → (xs : List X) → fill test ss xs ≡ true → Each P xs
+  pub filled-each : (ss : List Slot) → Each (λ s. Has (asked s)) ss → (xs : List X) → fill test ss xs ≡ true → Each P xs
   unfolding fill
   filled-each [] o [] h = tt
   filled-each [] o (x ∷ xs) h = clash h refl

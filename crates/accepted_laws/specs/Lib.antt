@@ -3,3 +3,4 @@ pub mod Depth
 pub mod Size
 pub mod Inside
 pub mod Lists
+pub mod Tops
