@@ -40,7 +40,7 @@ fn starts_name(b: u8) -> bool
     from_to(b'a', b'z', b)
 }
 
-fn goes_on_name(b: u8) -> bool
+pub fn goes_on_name(b: u8) -> bool
     ensures { λ r. ⌜ r ≡ (startsName b || isDigit b) ⌝ }
 {
     if starts_name(b) {

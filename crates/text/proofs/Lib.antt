@@ -1,4 +1,3 @@
 pub mod Ones
 pub mod Ends
-pub mod Bits
 pub mod Places

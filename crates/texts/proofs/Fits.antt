@@ -1,6 +1,6 @@
 -- What the definition asks of a text, rule by rule, in the words of the code's tests; and the fault of a node by its words.
-use mathlib.Core.Path.{_≡_, refl, sym}
-use mathlib.Core.Bool.{Bool, not, _&&_, _||_}
+use mathlib.Core.Path.{_≡_, refl, sym, _∙_}
+use mathlib.Core.Bool.{Bool, true, false, not, _&&_, _||_}
 use mathlib.Core.List.{List, [], _∷_}
 use Prim.Native.Nat.{ℕ, _+_, _-_}
 use native.Mathlib.Omega.{arith}
@@ -78,3 +78,12 @@ module _ (w p : List ℕ) (i : ℕ) where
   fault-by-words k a n t r kind start len rule fits =
       let e : a + n - a ≡ n = omega arith in
       rw (fault-by-text, text-by-words, ← kind .is, ← start .is, ← len .is, ← rule, fits, e)
+
+  pub no-fault-by-words : (k a n : ℕ) → Small k (kindAt w i) → Small a (startAt w i) → Small n (lengthAt w i)
+      → textFits (rowOf k .text) (take n (drop a p)) ≡ true → textFault w p i ≡ false
+  no-fault-by-words k a n kind start len fits = rw (fault-by-text, text-by-words, ← kind .is, ← start .is, ← len .is, fits)
+
+  pub no-fault-of-any-text : (k a n : ℕ) → Small k (kindAt w i) → Small a (startAt w i) → Small n (lengthAt w i)
+      → rowOf k .text ≡ anyText → utf8 (take n (drop a p)) ≡ true → textFault w p i ≡ false
+  no-fault-of-any-text k a n kind start len any fits =
+      no-fault-by-words k a n kind start len (rw any (any-text-by (take n (drop a p)) ∙ fits))

@@ -3,7 +3,7 @@ use Prim.Native.Nat.{ℕ, _+_, _-_, _≤_, _<_}
 use native.Mathlib.Omega.{arith}
 use lib.ListN.{getD}
 use denote.Ref.{now}
-use Rattle.text.proofs.Bits.{none-above-or}
+use Rattle.text.specs.Bits.{none-above-or}
 use Rattle.text.proofs.bits_at.Statement.{statement}
 use Rattle.text.proofs.bits_at.Tie as tie
 

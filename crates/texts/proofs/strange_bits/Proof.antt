@@ -1,0 +1,77 @@
+-- None of what the bytes passed give is above the bits so far, and one more byte's bits keep that.
+use Rattle.texts.specs.Plain.{strangeThrough}
+use Rattle.text.specs.Bits.{none-above-or}
+use borrow.Author.Needs.{needs}
+use denote.Ref.{now}
+use native.Mathlib.Omega.{arith}
+use mathlib.Core.Path.{_≡_}
+use Prim.Native.Nat.{ℕ, _+_, _-_, _≤_, _<_}
+use Rattle.texts.proofs.strange_bits.Statement.{statement}
+use Rattle.texts.proofs.strange_bits.Tie as tie
+
+abbrev Inv-loop : tie.InvT-loop
+Inv-loop pool mask start n from bits₀ k₀ bits k = (k ≤ 16) × (from + n ≡ 64) × ((j : ℕ) → 0 ≤ j → j < k → strangeThrough pool mask start n j ≤ bits)
+
+abbrev μ-loop : tie.MeasureT-loop
+μ-loop pool mask start n from bits₀ k₀ bits k = 16 - k
+
+sub-from : tie.Need-sub-from Inv-loop μ-loop
+sub-from c = omega arith
+
+loop-holds : tie.Need-loop-holds Inv-loop μ-loop
+loop-holds c = (omega arith, omega arith, λ j l u. absurd (omega arith))
+
+add-strange : tie.Need-add-strange Inv-loop μ-loop
+add-strange c = omega arith
+
+shared-slice-read-strange : tie.Need-shared-slice-read-strange Inv-loop μ-loop
+shared-slice-read-strange c = omega arith
+
+strange-requires : tie.Need-strange-requires Inv-loop μ-loop
+strange-requires c κs = search needs
+
+add-lesser : tie.Need-add-lesser Inv-loop μ-loop
+add-lesser c = omega arith
+
+element-copy-out-lesser : tie.Need-element-copy-out-lesser Inv-loop μ-loop
+element-copy-out-lesser c = omega arith
+
+lesser-requires : tie.Need-lesser-requires Inv-loop μ-loop
+lesser-requires c κs = search needs
+
+add-k : tie.Need-add-k Inv-loop μ-loop
+add-k c = omega arith
+
+loop-less : tie.Need-loop-less Inv-loop μ-loop
+loop-less c = omega arith
+
+loop-again : tie.Need-loop-again Inv-loop μ-loop
+loop-again c = (
+  omega arith,
+  omega arith,
+  λ j h u.
+      rw (c .lesser .ensures, (c .before .before .strange) .ensures)
+      (none-above-or (strangeThrough (now ((c .before .before .before .before .before .before .before .args) .pool)) (now ((c .before .before .before .before .before .before .before .args) .mask)) ((c .before .before .before .before .before .before .before .args) .start) ((c .before .before .before .before .before .before .before .args) .n)) 0 ((c .before .before .before .before .before .loop) .k) ((c .before .before .before .before .before .loop) .bits) ((c .before .before .before .before .before .loop) .inv .2) j h u),
+)
+
+returns : tie.Need-returns Inv-loop μ-loop
+returns c k l = (c .before .loop) .inv .2 k (omega arith) (omega arith)
+
+pub strange-bits-spec : {M : Type 1} → statement M
+strange-bits-spec =
+    tie.close
+    (tie.spec
+    Inv-loop
+    μ-loop
+    sub-from
+    loop-holds
+    add-strange
+    shared-slice-read-strange
+    strange-requires
+    add-lesser
+    element-copy-out-lesser
+    lesser-requires
+    add-k
+    loop-less
+    loop-again
+    returns)
