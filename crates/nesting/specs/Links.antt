@@ -1,4 +1,5 @@
 -- What the scan for nesting faults asks of a table, and the links that it keeps.
+use mathlib.Core.Path.{_≡_}
 use mathlib.Core.List.{List}
 use Prim.Native.Nat.{ℕ, _*_, _≤_, _<_}
 use lib.ListN.{length, getD}
@@ -25,3 +26,8 @@ pub record EndsLater (w : List ℕ) (n k s : ℕ) : Type 0 where
 pub record Linked (w : List ℕ) (n low : ℕ) (links : List ℕ) : Type 0 where
   pub size : n ≤ length links
   pub each : (k : ℕ) → low ≤ k → k < n → EndsLater w n k (getD links k 0)
+
+-- no cap yet: the first n + 1 places are 0
+pub record NoCaps (n : ℕ) (caps : List ℕ) : Type 0 where
+  pub size : n < length caps
+  pub none : (m : ℕ) → m ≤ n → getD caps m 0 ≡ 0
