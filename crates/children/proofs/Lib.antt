@@ -4,3 +4,4 @@ pub mod Rules
 pub mod Table
 pub mod Family
 pub mod Reach
+pub mod Columns

@@ -78,3 +78,7 @@ entry t p c = getD t (p * columnCount + c) 0
 pub record Right (t : List ℕ) : Type 0 where
   pub goes : (p kind variant : ℕ) → p < stateCount → kind < Kind.count → Goes p kind variant (entry t p (columnOf kind variant))
   pub ends : (p : ℕ) → p < stateCount → eqb (entry t p endColumn) 1 ≡ done (stateOf p)
+
+-- the columns of all kinds; a NamedType's is that of a variant other than 0
+pub record Columned (cs : List ℕ) : Type 0 where
+  pub each : (k : ℕ) → k < Kind.count → getD cs k 0 ≡ columnOf k 1

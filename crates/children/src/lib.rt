@@ -5,12 +5,13 @@ ghost use mathlib.Core.Path.{_≡_};
 ghost use mathlib.Core.Bool.{_&&_};
 ghost use Prim.Native.Nat.{_+_, _<_};
 ghost use lib.Dec.{leb, ltb};
+ghost use lib.ListN.{length};
 ghost use Rattle.meaning.specs.Kind;
 ghost use Rattle.meaning.specs.First.{first};
 ghost use Rattle.meaning.specs.Refusals.{isExtension, isConstant, nodeIn, notAsListed, childrenFault};
 ghost use Rattle.children.specs.Shaped.{Nodes, Shaped, from};
 ghost use Rattle.children.specs.Walk.{fills, done};
-ghost use Rattle.children.specs.States.{stateOf, columnOf, stateCount, endColumn, Goes, Right};
+ghost use Rattle.children.specs.States.{stateOf, columnOf, stateCount, endColumn, Goes, Right, Columned};
 ghost use Rattle.children.specs.Reach.{inConstant, furthest};
 use meaning::NodeNumber;
 use states::Table;
@@ -20,6 +21,14 @@ const VARIABLE: usize = 39;
 const COLUMNS: usize = 20;
 
 const END_COLUMN: usize = 19;
+
+const PLAIN_TYPE_COLUMN: usize = 18;
+
+const KINDS: usize = 45;
+
+const NAMED_TYPE: usize = 33;
+
+type Columns = [u8; 45];
 
 // The column of a node in the table of states.
 fn column(kind: usize, variant: usize) -> usize
@@ -43,12 +52,45 @@ fn column(kind: usize, variant: usize) -> usize
     }
 }
 
+// The columns of all kinds, so that a child's is read and not decided anew.
+fn fill(columns: &mut Columns)
+    requires { ⌜ length (now columns) ≡ 45 ⌝ }
+    ensures { λ r. ⌜ Columned (now (columns .exit)) ⌝ }
+{
+    let mut k = 0;
+    while k < KINDS {
+        columns[k] = column(k, 1) as u8;
+        k += 1;
+    }
+}
+
+fn wide(b: u8) -> usize
+    ensures { λ r. ⌜ r ≡ b ⌝ }
+{
+    b as usize
+}
+
+// The same as `column`.
+fn column_at(columns: &Columns, kind: usize, variant: usize) -> usize
+    requires { ⌜ Columned (now columns) × (kind < Kind.count) ⌝ }
+    ensures { λ r. ⌜ (r ≡ columnOf kind variant) × (r < endColumn) ⌝ }
+{
+    let other = wide(columns[kind]);
+    if kind != NAMED_TYPE {
+        return other;
+    }
+    if variant != 0 {
+        return other;
+    }
+    PLAIN_TYPE_COLUMN
+}
+
 // The state after a child.
-fn next_state(t: &Table, p: usize, kind: usize, variant: usize) -> usize
-    requires { ⌜ Right (now t) × (p < stateCount) × (kind < Kind.count) ⌝ }
+fn next_state(t: &Table, columns: &Columns, p: usize, kind: usize, variant: usize) -> usize
+    requires { ⌜ Right (now t) × (p < stateCount) × (kind < Kind.count) × Columned (now columns) ⌝ }
     ensures { λ r. ⌜ Goes p kind variant r ⌝ }
 {
-    t[p * COLUMNS + column(kind, variant)] as usize
+    t[p * COLUMNS + column_at(columns, kind, variant)] as usize
 }
 
 // Whether the children may end in this state.
@@ -60,8 +102,15 @@ fn may_end(t: &Table, p: usize) -> bool
 }
 
 // The children from `first` on, of a node that ends at `end`, fill what the state `start` leaves.
-fn fits(words: &[u32], t: &Table, start: usize, first: usize, end: usize) -> bool
-    requires { ⌜ Right (now t) × (start < stateCount) × Nodes (now words) end ⌝ }
+fn fits(
+    words: &[u32],
+    t: &Table,
+    columns: &Columns,
+    start: usize,
+    first: usize,
+    end: usize,
+) -> bool
+    requires { ⌜ Right (now t) × (start < stateCount) × Nodes (now words) end × Columned (now columns) ⌝ }
     ensures { λ r. ⌜ r ≡ fills (nodeIn (now (words .entry))) (stateOf start) (from (now (words .entry)) first end) ⌝ }
 {
     let mut p = start;
@@ -69,7 +118,7 @@ fn fits(words: &[u32], t: &Table, start: usize, first: usize, end: usize) -> boo
     while c < end {
         let kind = table::kind(words, NodeNumber(c));
         let variant = table::variant(words, NodeNumber(c));
-        p = next_state(t, p, kind, variant);
+        p = next_state(t, columns, p, kind, variant);
         c = table::end(words, NodeNumber(c));
     }
     may_end(t, p)
@@ -87,14 +136,14 @@ fn bare(kind: usize, at: usize, end: usize) -> bool
 }
 
 // The children of one node are not as its kind lists them.
-fn not_as_listed(words: &[u32], t: &Table, n: usize, i: NodeNumber) -> bool
-    requires { ⌜ Right (now t) × Shaped (now words) n × (i .0 < n) ⌝ }
+fn not_as_listed(words: &[u32], t: &Table, columns: &Columns, n: usize, i: NodeNumber) -> bool
+    requires { ⌜ Right (now t) × Shaped (now words) n × (i .0 < n) × Columned (now columns) ⌝ }
     ensures { λ r. ⌜ r ≡ notAsListed (now (words .entry)) (i .0) ⌝ }
 {
     let at = i.0;
     let kind = table::kind(words, i);
     let end = table::end(words, i);
-    if fits(words, t, kind + 1, at + 1, end) {
+    if fits(words, t, columns, kind + 1, at + 1, end) {
         return bare(kind, at, end);
     }
     true
@@ -124,11 +173,18 @@ fn further(reach: usize, kind: usize, end: usize) -> usize
 }
 
 // Refusal 6 of one node. `reach` is the furthest end of the constant nodes before it.
-fn children_fault(words: &[u32], t: &Table, n: usize, reach: usize, i: NodeNumber) -> bool
-    requires { ⌜ Right (now t) × Shaped (now words) n × (i .0 < n) × (inConstant (now words) (i .0) ≡ ltb (i .0) reach) ⌝ }
+fn children_fault(
+    words: &[u32],
+    t: &Table,
+    columns: &Columns,
+    n: usize,
+    reach: usize,
+    i: NodeNumber,
+) -> bool
+    requires { ⌜ Right (now t) × Shaped (now words) n × (i .0 < n) × (inConstant (now words) (i .0) ≡ ltb (i .0) reach) × Columned (now columns) ⌝ }
     ensures { λ r. ⌜ r ≡ childrenFault (now (words .entry)) (i .0) ⌝ }
 {
-    if not_as_listed(words, t, n, i) {
+    if not_as_listed(words, t, columns, n, i) {
         return true;
     }
     let at = i.0;
@@ -138,15 +194,15 @@ fn children_fault(words: &[u32], t: &Table, n: usize, reach: usize, i: NodeNumbe
     false
 }
 
-// The same as `first_children_fault`, with the table lent.
-fn first_fault(words: &[u32], t: &Table, n: usize) -> NodeNumber
-    requires { ⌜ Right (now t) × Shaped (now words) n ⌝ }
+// The same as `first_children_fault`, with the tables lent.
+fn first_fault(words: &[u32], t: &Table, columns: &Columns, n: usize) -> NodeNumber
+    requires { ⌜ Right (now t) × Shaped (now words) n × Columned (now columns) ⌝ }
     ensures { λ r. ⌜ r .0 ≡ first (childrenFault (now (words .entry))) n ⌝ }
 {
     let mut reach: usize = 0;
     let mut i = 0;
     while i < n {
-        if children_fault(words, t, n, reach, NodeNumber(i)) {
+        if children_fault(words, t, columns, n, reach, NodeNumber(i)) {
             return NodeNumber(i);
         }
         let kind = table::kind(words, NodeNumber(i));
@@ -163,5 +219,7 @@ pub fn first_children_fault(words: &[u32], n: usize) -> NodeNumber
     ensures { λ r. ⌜ r .0 ≡ first (childrenFault (now (words .entry))) n ⌝ }
 {
     let t = states::STATES;
-    first_fault(words, &t, n)
+    let mut columns = [0u8; 45];
+    fill(&mut columns);
+    first_fault(words, &t, &columns, n)
 }

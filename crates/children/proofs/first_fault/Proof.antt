@@ -14,10 +14,10 @@ use Rattle.children.proofs.first_fault.Statement.{statement}
 use Rattle.children.proofs.first_fault.Tie as tie
 
 abbrev Inv-loop : tie.InvT-loop
-Inv-loop words t n reach₀ i₀ reach i = (i ≤ n) × ((k : ℕ) → k < i → childrenFault words k ≡ false) × Reach words i reach
+Inv-loop words t columns n reach₀ i₀ reach i = (i ≤ n) × ((k : ℕ) → k < i → childrenFault words k ≡ false) × Reach words i reach
 
 abbrev μ-loop : tie.MeasureT-loop
-μ-loop words t n reach₀ i₀ reach i = n - i
+μ-loop words t columns n reach₀ i₀ reach i = n - i
 
 loop-holds : tie.Need-loop-holds Inv-loop μ-loop
 loop-holds c = (omega arith, below-none _, reach-none _)
@@ -26,7 +26,7 @@ children-fault-requires : tie.Need-children-fault-requires Inv-loop μ-loop
 children-fault-requires c κs =
     let l = c .before in
     let s = l .before .before in
-    (s .pre .0, s .pre .1, omega arith, in-constant _ _ _ (l .loop .inv .2))
+    (s .pre .0, s .pre .1, omega arith, in-constant _ _ _ (l .loop .inv .2), s .pre .2)
 
 returns : tie.Need-returns Inv-loop μ-loop
 returns c = first-hit (omega arith) (c .before .before .before .loop .inv .1) (sym (c .before .children-fault .ensures) ∙ c .if1 .taken)

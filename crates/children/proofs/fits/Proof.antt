@@ -12,11 +12,11 @@ use Rattle.children.proofs.fits.Statement.{statement}
 use Rattle.children.proofs.fits.Tie as tie
 
 abbrev Inv-loop : tie.InvT-loop
-Inv-loop words t start first end p₀ c₀ p c =
+Inv-loop words t columns start first end p₀ c₀ p c =
     (p < stateCount) × (fills (nodeIn words) (stateOf p) (from words c end) ≡ fills (nodeIn words) (stateOf start) (from words first end))
 
 abbrev μ-loop : tie.MeasureT-loop
-μ-loop words t start first end p₀ c₀ p c = end - c
+μ-loop words t columns start first end p₀ c₀ p c = end - c
 
 loop-holds : tie.Need-loop-holds Inv-loop μ-loop
 loop-holds c = (omega arith, refl)
@@ -31,7 +31,7 @@ next-state-requires : tie.Need-next-state-requires Inv-loop μ-loop
 next-state-requires c κs =
     let l = c .before .before .before in
     let s = l .before .before in
-    (s .pre .0, omega arith, rw (c .before .kind .ensures .is) (s .pre .2 .known (l .loop .c) (omega arith)))
+    (s .pre .0, omega arith, rw (c .before .kind .ensures .is) (s .pre .2 .known (l .loop .c) (omega arith)), s .pre .3)
 
 end-requires : tie.Need-end-requires Inv-loop μ-loop
 end-requires c κs = record { words = omega arith; few = omega arith }

@@ -23,7 +23,7 @@ fits-requires c κs =
     let s = c .before .before .before in
     let k = s .pre .1 .nodes .known (s .args .i .0) (omega arith) in
     let e = s .pre .1 .within (s .args .i .0) (omega arith) in
-    (s .pre .0, omega (arith, c .before .kind .ensures .is), fewer (s .pre .1 .nodes) (omega (arith, c .end .ensures .is)))
+    (s .pre .0, omega (arith, c .before .kind .ensures .is), fewer (s .pre .1 .nodes) (omega (arith, c .end .ensures .is)), s .pre .3)
 
 bare-requires : tie.Need-bare-requires
 bare-requires c κs = search needs
