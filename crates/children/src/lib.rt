@@ -102,14 +102,7 @@ fn may_end(t: &Table, p: usize) -> bool
 }
 
 // The children from `first` on, of a node that ends at `end`, fill what the state `start` leaves.
-fn fits(
-    words: &[u32],
-    t: &Table,
-    columns: &Columns,
-    start: usize,
-    first: usize,
-    end: usize,
-) -> bool
+fn fits(words: &[u32], t: &Table, columns: &Columns, start: usize, first: usize, end: usize) -> bool
     requires { ⌜ Right (now t) × (start < stateCount) × Nodes (now words) end × Columned (now columns) ⌝ }
     ensures { λ r. ⌜ r ≡ fills (nodeIn (now (words .entry))) (stateOf start) (from (now (words .entry)) first end) ⌝ }
 {
