@@ -14,16 +14,21 @@ wide-requires c κs = search needs
 
 returns : tie.Need-returns
 returns c =
-    let each = (c .before .wide) .ensures ∙ (c .before .before .before .pre) .0 .each ((c .before .before .before .args) .kind) ((c .before .before .before .pre) .1) in
-    (other-kind ((c .before .before .before .args) .kind) ((c .before .before .before .args) .variant) ((c .before .wide) .result) ((c .if1) .taken) each, omega (arith, each, column-small ((c .before .before .before .args) .kind) ((c .before .before .before .pre) .1)))
+    let entry = c .before .before .before in
+    let each = c .before .wide .ensures ∙ entry .pre .0 .each (entry .args .kind) (entry .pre .1) in
+    (other-kind (entry .args .kind) (entry .args .variant) (c .before .wide .result) (c .if1 .taken) each, omega (arith, each, column-small (entry .args .kind) (entry .pre .1)))
 
 returns-2 : tie.Need-returns-2
 returns-2 c =
-    let each = (c .before .before .wide) .ensures ∙ (c .before .before .before .before .pre) .0 .each ((c .before .before .before .before .args) .kind) ((c .before .before .before .before .pre) .1) in
-    (other-variant ((c .before .before .before .before .args) .kind) ((c .before .before .before .before .args) .variant) ((c .before .before .wide) .result) ((c .if2) .taken) each, omega (arith, each, column-small ((c .before .before .before .before .args) .kind) ((c .before .before .before .before .pre) .1)))
+    let at-wide = c .before .before in
+    let entry = at-wide .before .before in
+    let each = at-wide .wide .ensures ∙ entry .pre .0 .each (entry .args .kind) (entry .pre .1) in
+    (other-variant (entry .args .kind) (entry .args .variant) (at-wide .wide .result) (c .if2 .taken) each, omega (arith, each, column-small (entry .args .kind) (entry .pre .1)))
 
 returns-3 : tie.Need-returns-3
-returns-3 c = (plain-type ((c .before .before .before .before .args) .kind) ((c .before .before .before .before .args) .variant) ((c .before .if1) .left) ((c .if2) .left), omega arith)
+returns-3 c =
+    let entry = c .before .before .before .before in
+    (plain-type (entry .args .kind) (entry .args .variant) (c .before .if1 .left) (c .if2 .left), omega arith)
 
 pub column-at-spec : {M : Type 1} → statement M
 column-at-spec =

@@ -22,7 +22,7 @@ column-requires : tie.Need-column-requires Inv-loop μ-loop
 column-requires c κs = omega arith
 
 cast-columns : tie.Need-cast-columns Inv-loop μ-loop
-cast-columns c = omega (arith, (c .column) .ensures .1)
+cast-columns c = omega (arith, c .column .ensures .1)
 
 element-write-columns : tie.Need-element-write-columns Inv-loop μ-loop
 element-write-columns c = omega arith
@@ -34,10 +34,12 @@ loop-less : tie.Need-loop-less Inv-loop μ-loop
 loop-less c = omega arith
 
 loop-again : tie.Need-loop-again Inv-loop μ-loop
-loop-again c = (omega arith, search needs, columns-more ((c .before .before .loop) .columns) ((c .before .before .loop) .k) (c .column .result) (omega arith) ((c .before .before .loop) .inv .2) (c .column .ensures .0))
+loop-again c =
+    let at-loop = c .before .before in
+    (omega arith, search needs, columns-more (at-loop .loop .columns) (at-loop .loop .k) (c .column .result) (omega arith) (at-loop .loop .inv .2) (c .column .ensures .0))
 
 returns : tie.Need-returns Inv-loop μ-loop
-returns c = record { each = λ k l. (c .before .loop) .inv .2 k (omega arith) }
+returns c = record { each = λ k l. c .before .loop .inv .2 k (omega arith) }
 
 pub fill-spec : {M : Type 1} → statement M
 fill-spec =

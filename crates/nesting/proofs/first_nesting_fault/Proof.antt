@@ -13,7 +13,7 @@ is-nested-requires : tie.Need-is-nested-requires
 is-nested-requires c κs = ((c .before .before .pre), record { size = search needs; none = λ m h. getD-replicate 8193 m 0 0 (omega arith) })
 
 returns : tie.Need-returns
-returns c = first-none ((c .before .before .is-nested) .ensures ((c .if1) .taken))
+returns c = first-none (c .before .before .is-nested .ensures (c .if1 .taken))
 
 slice-aggregate-scan : tie.Need-slice-aggregate-scan
 slice-aggregate-scan c = search needs

@@ -16,13 +16,13 @@ abbrev μ-loop : tie.MeasureT-loop
 μ-loop words caps₀ n cap₀ i₀ caps cap i = n - i
 
 loop-holds : tie.Need-loop-holds Inv-loop μ-loop
-loop-holds c = none-capped ((c .before .before .pre) .1)
+loop-holds c = none-capped (c .before .before .pre .1)
 
 end-requires : tie.Need-end-requires Inv-loop μ-loop
 end-requires c κs = record { words = omega arith; few = omega arith }
 
 same-length : tie.Need-same-length Inv-loop μ-loop
-same-length c = (c .before .before .before .loop) .inv .same
+same-length c = c .before .before .before .loop .inv .same
 
 returns : tie.Need-returns Inv-loop μ-loop
 returns c e = clash e refl
@@ -31,16 +31,24 @@ mul-larger : tie.Need-mul-larger Inv-loop μ-loop
 mul-larger c = omega arith
 
 slice-read-larger : tie.Need-slice-read-larger Inv-loop μ-loop
-slice-read-larger c = omega (arith, (c .before .before .before .before .before .before .before .pre) .0 .within ((c .before .before .before .before .loop) .i) (omega arith), (c .before .before .end) .ensures .is, (c .before .before .before .before .loop) .inv .same, (c .before .before .before .before .before .before .before .pre) .1 .size)
+slice-read-larger c =
+    let at-loop = c .before .before .before .before in
+    let entry = at-loop .before .before .before in
+    omega
+    (arith, entry .pre .0 .within (at-loop .loop .i) (omega arith), c .before .before .end .ensures .is, at-loop .loop .inv .same, entry .pre .1 .size)
 
 larger-requires : tie.Need-larger-requires Inv-loop μ-loop
 larger-requires c κs = search needs
 
 mul-caps : tie.Need-mul-caps Inv-loop μ-loop
-mul-caps c = omega (arith, (c .before .before .before .end) .ensures .bound)
+mul-caps c = omega (arith, c .before .before .before .end .ensures .bound)
 
 slice-write-caps : tie.Need-slice-write-caps Inv-loop μ-loop
-slice-write-caps c = omega (arith, (c .before .before .before .before .before .before .before .before .pre) .0 .within ((c .before .before .before .before .before .loop) .i) (omega arith), (c .before .before .before .end) .ensures .is, (c .before .before .before .before .before .loop) .inv .same, (c .before .before .before .before .before .before .before .before .pre) .1 .size)
+slice-write-caps c =
+    let at-loop = c .before .before .before .before .before in
+    let entry = at-loop .before .before .before in
+    omega
+    (arith, entry .pre .0 .within (at-loop .loop .i) (omega arith), c .before .before .before .end .ensures .is, at-loop .loop .inv .same, entry .pre .1 .size)
 
 add-i : tie.Need-add-i Inv-loop μ-loop
 add-i c = omega arith
@@ -49,7 +57,10 @@ mul-larger-2 : tie.Need-mul-larger-2 Inv-loop μ-loop
 mul-larger-2 c = omega arith
 
 slice-read-larger-2 : tie.Need-slice-read-larger-2 Inv-loop μ-loop
-slice-read-larger-2 c = rw length-set (omega (arith, (c .before .before .before .before .before .before .loop) .inv .same, (c .before .before .before .before .before .before .before .before .before .pre) .1 .size))
+slice-read-larger-2 c =
+    let at-loop = c .before .before .before .before .before .before in
+    let entry = at-loop .before .before .before in
+    rw length-set (omega (arith, at-loop .loop .inv .same, entry .pre .1 .size))
 
 larger-requires-2 : tie.Need-larger-requires-2 Inv-loop μ-loop
 larger-requires-2 c κs = search needs
@@ -59,15 +70,20 @@ loop-less c = omega arith
 
 loop-again : tie.Need-loop-again Inv-loop μ-loop
 loop-again c =
-    capped-more ((c .before .before .before .before .before .before .before .loop) .inv) (omega arith) ((c .before .before .before .before .before .end) .ensures .is)
-    (omega (arith, (c .before .before .before .before .before .before .before .before .before .before .pre) .0 .within ((c .before .before .before .before .before .before .before .loop) .i) (omega arith), (c .before .before .before .before .before .end) .ensures .is, (c .before .before .before .before .before .before .before .loop) .inv .same, (c .before .before .before .before .before .before .before .before .before .before .pre) .1 .size))
-    (omega arith) ((c .before .before .larger) .ensures) (c .larger2 .ensures)
+    let at-end = c .before .before .before .before .before in
+    let at-loop = at-end .before .before in
+    let entry = at-loop .before .before .before in
+    capped-more (at-loop .loop .inv) (omega arith) (at-end .end .ensures .is)
+    (omega (arith, entry .pre .0 .within (at-loop .loop .i) (omega arith), at-end .end .ensures .is, at-loop .loop .inv .same, entry .pre .1 .size))
+    (omega arith) (c .before .before .larger .ensures) (c .larger2 .ensures)
 
 same-length-2 : tie.Need-same-length-2 Inv-loop μ-loop
-same-length-2 c = (c .before .loop) .inv .same
+same-length-2 c = c .before .loop .inv .same
 
 returns-2 : tie.Need-returns-2 Inv-loop μ-loop
-returns-2 c e k l = no-crossing ((c .before .loop) .inv) (c .loop-test .left) k ((c .before .before .before .before .pre) .0 .within k l)
+returns-2 c e k l =
+    let entry = c .before .before .before .before in
+    no-crossing (c .before .loop .inv) (c .loop-test .left) k (entry .pre .0 .within k l)
 
 pub is-nested-spec : {M : Type 1} → statement M
 is-nested-spec =

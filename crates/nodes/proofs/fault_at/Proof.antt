@@ -8,7 +8,7 @@ is-fine-requires : tie.Need-is-fine-requires
 is-fine-requires c κs = search needs
 
 returns : tie.Need-returns
-returns c = sym ((c .before .is-fine) .ensures ((c .if1) .taken))
+returns c = sym (c .before .is-fine .ensures (c .if1 .taken))
 
 node-fault-requires : tie.Need-node-fault-requires
 node-fault-requires c κs = search needs

@@ -31,10 +31,12 @@ loop-less : tie.Need-loop-less Inv-loop μ-loop
 loop-less c = omega arith
 
 loop-again : tie.Need-loop-again Inv-loop μ-loop
-loop-again c = (omega arith, search needs, filled-more textless ((c .before .before .loop) .t) ((c .before .before .loop) .k) ((c .textless) .result) (omega arith) ((c .before .before .loop) .inv .2) ((c .textless) .ensures))
+loop-again c =
+    let at-loop = c .before .before in
+    (omega arith, search needs, filled-more textless (at-loop .loop .t) (at-loop .loop .k) (c .textless .result) (omega arith) (at-loop .loop .inv .2) (c .textless .ensures))
 
 returns : tie.Need-returns Inv-loop μ-loop
-returns c = record { each = λ k l. (c .before .loop) .inv .2 k (omega arith) }
+returns c = record { each = λ k l. c .before .loop .inv .2 k (omega arith) }
 
 pub fill-textless-spec : {M : Type 1} → statement M
 fill-textless-spec =

@@ -22,7 +22,7 @@ variants-of-requires : tie.Need-variants-of-requires Inv-loop μ-loop
 variants-of-requires c κs = omega arith
 
 cast-t : tie.Need-cast-t Inv-loop μ-loop
-cast-t c = omega (arith, (c .variants-of) .ensures, few-variants ((c .before .before .loop) .k) (omega arith))
+cast-t c = omega (arith, c .variants-of .ensures, few-variants (c .before .before .loop .k) (omega arith))
 
 element-write-t : tie.Need-element-write-t Inv-loop μ-loop
 element-write-t c = omega arith
@@ -34,10 +34,12 @@ loop-less : tie.Need-loop-less Inv-loop μ-loop
 loop-less c = omega arith
 
 loop-again : tie.Need-loop-again Inv-loop μ-loop
-loop-again c = (omega arith, search needs, filled-more (λ j. rowOf j .variants) ((c .before .before .loop) .t) ((c .before .before .loop) .k) ((c .variants-of) .result) (omega arith) ((c .before .before .loop) .inv .2) ((c .variants-of) .ensures))
+loop-again c =
+    let at-loop = c .before .before in
+    (omega arith, search needs, filled-more (λ j. rowOf j .variants) (at-loop .loop .t) (at-loop .loop .k) (c .variants-of .result) (omega arith) (at-loop .loop .inv .2) (c .variants-of .ensures))
 
 returns : tie.Need-returns Inv-loop μ-loop
-returns c = record { each = λ k l. (c .before .loop) .inv .2 k (omega arith) }
+returns c = record { each = λ k l. c .before .loop .inv .2 k (omega arith) }
 
 pub fill-variants-spec : {M : Type 1} → statement M
 fill-variants-spec =

@@ -56,9 +56,13 @@ wide-requires-2 c κs = search needs
 
 mul-if6 : tie.Need-mul-if6
 mul-if6 c =
-    let each = (c .before .before .before .before .before .before .before .before .before .before .before .before .before .before .before .pre) .3 .each ((c .before .before .before .before .before .before .before .before .before .before .before .kind) .result) (omega arith) in
-    let digit = textless-digit ((c .before .before .before .before .before .before .before .before .before .before .before .kind) .result) in
-    omega (arith, (c .before .before .before .before .length) .ensures .bound, small-product (c .wide2 .result) ((c .before .before .before .before .length) .result) (omega (arith, each, digit, c .wide2 .ensures)))
+    let at-length = c .before .before .before .before in
+    let at-kind = at-length .before .before .before .before .before .before .before in
+    let at-start = at-kind .before .before .before .before in
+    let each = at-start .pre .3 .each (at-kind .kind .result) (omega arith) in
+    let digit = textless-digit (at-kind .kind .result) in
+    omega
+    (arith, at-length .length .ensures .bound, small-product (c .wide2 .result) (at-length .length .result) (omega (arith, each, digit, c .wide2 .ensures)))
 
 returns-6 : tie.Need-returns-6
 returns-6 c e = clash e refl
@@ -74,11 +78,26 @@ returns-8 c e = clash e refl
 
 returns-9 : tie.Need-returns-9
 returns-9 c e =
-    no-fault (now ((c .before .before .before .before .before .before .before .before .before .before .before .before .before .before .before .before .before .before .before .args) .words)) (now ((c .before .before .before .before .before .before .before .before .before .before .before .before .before .before .before .before .before .before .before .args) .pool)) ((c .before .before .before .before .before .before .before .before .before .before .before .before .before .before .before .before .before .before .before .args) .i .0) ((c .before .before .before .before .before .before .before .before .before .before .before .before .before .before .before .kind) .result) ((c .before .before .before .before .before .before .before .before .before .before .before .variant) .result) ((c .before .before .before .before .before .before .before .before .before .start) .result) ((c .before .before .before .before .before .before .before .before .length) .result) ((c .before .before .end) .result)
-    ((c .before .before .before .before .before .before .before .before .before .before .before .before .before .before .before .kind) .ensures) ((c .before .before .before .before .before .before .before .before .before .before .before .variant) .ensures) ((c .before .before .before .before .before .before .before .before .before .start) .ensures) ((c .before .before .before .before .before .before .before .before .length) .ensures) ((c .before .before .end) .ensures) (omega arith) (omega arith)
-    (omega (arith, (c .before .before .before .before .before .before .before .before .before .before .before .before .wide) .ensures, (c .before .before .before .before .before .before .before .before .before .before .before .before .before .before .before .before .before .before .before .pre) .2 .each ((c .before .before .before .before .before .before .before .before .before .before .before .before .before .before .before .kind) .result) (omega arith))) (omega arith) (omega arith)
-    (rw (← (c .before .before .before .before .before .before .before .before .before .before .before .before .before .before .before .before .before .before .before .pre) .3 .each ((c .before .before .before .before .before .before .before .before .before .before .before .before .before .before .before .kind) .result) (omega arith), ← (c .before .before .before .before .wide2) .ensures) ((c .before .before .before .if6) .left)) (omega arith) (omega arith)
-    (eqb-false ((c .before .before .before .before .before .before .before .before .before .before .before .before .before .before .before .kind) .result) 0 (not-true _ e))
+    let at-end = c .before .before in
+    let at-wide2 = at-end .before .before in
+    let at-if5 = at-wide2 .before .before in
+    let at-if4 = at-if5 .before in
+    let at-length = at-if4 .before in
+    let at-start = at-length .before in
+    let at-if3 = at-start .before in
+    let at-variant = at-if3 .before in
+    let at-wide = at-variant .before in
+    let at-if2 = at-wide .before .before in
+    let at-kind = at-if2 .before in
+    let at-if1 = at-kind .before in
+    let entry = at-if1 .before .before .before in
+    no-fault (now (entry .args .words)) (now (entry .args .pool)) (entry .args .i .0) (at-kind .kind .result)
+    (at-variant .variant .result) (at-start .start .result) (at-length .length .result) (at-end .end .result)
+    (at-kind .kind .ensures) (at-variant .variant .ensures) (at-start .start .ensures) (at-length .length .ensures)
+    (at-end .end .ensures) (omega (arith, at-if1 .if1 .left)) (omega (arith, at-if2 .if2 .left))
+    (omega (arith, at-if3 .if3 .left, at-wide .wide .ensures, entry .pre .2 .each (at-kind .kind .result) (omega (arith, at-if2 .if2 .left)))) (omega (arith, at-if4 .if4 .left)) (omega (arith, at-if5 .if5 .left))
+    (rw (← entry .pre .3 .each (at-kind .kind .result) (omega (arith, at-if2 .if2 .left)), ← at-wide2 .wide2 .ensures) (c .before .before .before .if6 .left)) (omega (arith, c .before .if7 .left)) (omega (arith, c .if8 .left, entry .pre .1))
+    (eqb-false (at-kind .kind .result) 0 (not-true _ e))
 
 pub is-fine-spec : {M : Type 1} → statement M
 is-fine-spec =

@@ -8,7 +8,7 @@ plainly-fits-requires : tie.Need-plainly-fits-requires
 plainly-fits-requires c κs = search needs
 
 returns : tie.Need-returns
-returns c = sym ((c .before .plainly-fits) .ensures ((c .if1) .taken))
+returns c = sym (c .before .plainly-fits .ensures (c .if1 .taken))
 
 text-fault-requires : tie.Need-text-fault-requires
 text-fault-requires c κs = search needs

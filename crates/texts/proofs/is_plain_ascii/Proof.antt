@@ -17,7 +17,9 @@ text-bits-requires c κs = search needs
 
 returns-2 : tie.Need-returns-2
 returns-2 c e =
-    seen-ascii (now ((c .before .before .before .args) .pool)) (now ((c .before .before .before .args) .mask)) ((c .before .before .before .pre) .0) ((c .before .before .before .args) .start) ((c .before .before .before .args) .n) ((c .before .before .before .pre) .1) (omega arith) (c .text-bits .result)
+    let entry = c .before .before .before in
+    seen-ascii (now (entry .args .pool)) (now (entry .args .mask)) (entry .pre .0) (entry .args .start) (entry .args .n)
+    (entry .pre .1) (omega arith) (c .text-bits .result)
     (c .text-bits .ensures) (ltb-true (c .text-bits .result) 0x80 e)
 
 pub is-plain-ascii-spec : {M : Type 1} → statement M

@@ -57,13 +57,16 @@ returns-4 c e = clash e refl
 
 strange-bits-requires : tie.Need-strange-bits-requires
 strange-bits-requires c κs =
-    let row = (c .before .before .before .before .before .before .before .before .before .before .before .before .pre) .0 .each ((c .before .before .before .before .before .before .before .before .before .before .before .before .args) .kind) (omega arith) in
-    (omega arith, omega (arith, row .most, narrow (rowOf ((c .before .before .before .before .before .before .before .before .before .before .before .before .args) .kind) .text)))
+    let entry = c .before .before .before .before .before .before .before .before .before .before .before .before in
+    let row = entry .pre .0 .each (entry .args .kind) (omega arith) in
+    (omega arith, omega (arith, row .most, narrow (rowOf (entry .args .kind) .text)))
 
 returns-5 : tie.Need-returns-5
 returns-5 c e =
-    let row = (c .before .before .before .before .before .before .before .before .before .before .before .before .before .pre) .0 .each ((c .before .before .before .before .before .before .before .before .before .before .before .before .before .args) .kind) (omega arith) in
-    seen-name (now ((c .before .before .before .before .before .before .before .before .before .before .before .before .before .args) .pool)) (now ((c .before .before .before .before .before .before .before .before .before .before .before .before .before .args) .mask)) ((c .before .before .before .before .before .before .before .before .before .before .before .before .before .pre) .1) ((c .before .before .before .before .before .before .before .before .before .before .before .before .before .args) .start) ((c .before .before .before .before .before .before .before .before .before .before .before .before .before .args) .n) ((c .before .before .before .before .before .before .before .before .before .before .before .before .before .pre) .3) (now ((c .before .before .before .before .before .before .before .before .before .before .before .before .before .args) .limits)) ((c .before .before .before .before .before .before .before .before .before .before .before .before .before .args) .kind) row
+    let entry = c .before .before .before .before .before .before .before .before .before .before .before .before .before in
+    let row = entry .pre .0 .each (entry .args .kind) (omega arith) in
+    seen-name (now (entry .args .pool)) (now (entry .args .mask)) (entry .pre .1) (entry .args .start) (entry .args .n)
+    (entry .pre .3) (now (entry .args .limits)) (entry .args .kind) row
     (omega arith) (omega arith) (omega arith) (omega arith)
     (λ j l. let z = eqb-true (c .strange-bits .result) 0 e in omega (arith, z, c .strange-bits .ensures j l))
 

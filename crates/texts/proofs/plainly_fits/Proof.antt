@@ -27,8 +27,13 @@ is-plain-name-requires c κs = search needs
 
 returns-2 : tie.Need-returns-2
 returns-2 c e =
-    no-fault-by-words (now ((c .before .before .before .before .before .before .before .before .args) .words)) (now ((c .before .before .before .before .before .before .before .before .args) .pool)) ((c .before .before .before .before .before .before .before .before .args) .i .0) ((c .before .before .before .kind) .result) ((c .before .before .before .before .before .start) .result) ((c .before .before .length) .result)
-    ((c .before .before .before .kind) .ensures) ((c .before .before .before .before .before .start) .ensures) ((c .before .before .length) .ensures) ((c .before .is-plain-name) .ensures ((c .if2) .taken))
+    let at-length = c .before .before in
+    let at-kind = at-length .before in
+    let at-start = at-kind .before .before in
+    let entry = at-start .before .before .before in
+    no-fault-by-words (now (entry .args .words)) (now (entry .args .pool)) (entry .args .i .0) (at-kind .kind .result)
+    (at-start .start .result) (at-length .length .result)
+    (at-kind .kind .ensures) (at-start .start .ensures) (at-length .length .ensures) (c .before .is-plain-name .ensures (c .if2 .taken))
 
 takes-any-text-requires : tie.Need-takes-any-text-requires
 takes-any-text-requires c κs = search needs
@@ -38,8 +43,14 @@ is-plain-ascii-requires c κs = search needs
 
 returns-3 : tie.Need-returns-3
 returns-3 c e =
-    no-fault-of-any-text (now ((c .before .before .before .before .before .before .before .before .before .before .before .args) .words)) (now ((c .before .before .before .before .before .before .before .before .before .before .before .args) .pool)) ((c .before .before .before .before .before .before .before .before .before .before .before .args) .i .0) ((c .before .before .before .before .before .before .kind) .result) ((c .before .before .before .before .before .before .before .before .start) .result) ((c .before .before .before .before .before .length) .result)
-    ((c .before .before .before .before .before .before .kind) .ensures) ((c .before .before .before .before .before .before .before .before .start) .ensures) ((c .before .before .before .before .before .length) .ensures) ((c .before .before .takes-any-text) .ensures ((c .before .if3) .taken)) ((c .is-plain-ascii) .ensures e)
+    let at-length = c .before .before .before .before .before in
+    let at-kind = at-length .before in
+    let at-start = at-kind .before .before in
+    let entry = at-start .before .before .before in
+    no-fault-of-any-text (now (entry .args .words)) (now (entry .args .pool)) (entry .args .i .0) (at-kind .kind .result)
+    (at-start .start .result) (at-length .length .result)
+    (at-kind .kind .ensures) (at-start .start .ensures) (at-length .length .ensures)
+    (c .before .before .takes-any-text .ensures (c .before .if3 .taken)) (c .is-plain-ascii .ensures e)
 
 returns-4 : tie.Need-returns-4
 returns-4 c e = clash e refl

@@ -6,7 +6,7 @@ use Rattle.texts.proofs.takes_any_text.Tie as tie
 
 returns : tie.Need-returns
 unfolding rowOf
-returns c e = rw ((c .if1) .taken)
+returns c e = rw (c .if1 .taken)
 
 returns-2 : tie.Need-returns-2
 unfolding rowOf

@@ -10,7 +10,8 @@ use Rattle.texts.proofs.text_bits.Statement.{statement}
 use Rattle.texts.proofs.text_bits.Tie as tie
 
 abbrev Inv-loop : tie.InvT-loop
-Inv-loop pool mask start n from bits₀ k₀ bits k = (k ≤ 64) × (from + n ≡ 64) × ((j : ℕ) → 0 ≤ j → j < k → byteThrough pool mask start n j ≤ bits)
+Inv-loop pool mask start n from bits₀ k₀ bits k =
+    (k ≤ 64) × (from + n ≡ 64) × ((j : ℕ) → 0 ≤ j → j < k → byteThrough pool mask start n j ≤ bits)
 
 abbrev μ-loop : tie.MeasureT-loop
 μ-loop pool mask start n from bits₀ k₀ bits k = 64 - k
@@ -43,16 +44,18 @@ loop-less : tie.Need-loop-less Inv-loop μ-loop
 loop-less c = omega arith
 
 loop-again : tie.Need-loop-again Inv-loop μ-loop
-loop-again c = (
-  omega arith,
-  omega arith,
-  λ j h u.
-      rw (c .lesser .ensures)
-      (none-above-or (byteThrough (now ((c .before .before .before .before .before .before .args) .pool)) (now ((c .before .before .before .before .before .before .args) .mask)) ((c .before .before .before .before .before .before .args) .start) ((c .before .before .before .before .before .before .args) .n)) 0 ((c .before .before .before .before .loop) .k) ((c .before .before .before .before .loop) .bits) ((c .before .before .before .before .loop) .inv .2) j h u),
-)
+loop-again c =
+    let at-loop = c .before .before .before .before in
+    let entry = at-loop .before .before in (
+      omega arith,
+      omega arith,
+      λ j h u.
+          rw (c .lesser .ensures)
+          (none-above-or (byteThrough (now (entry .args .pool)) (now (entry .args .mask)) (entry .args .start) (entry .args .n)) 0 (at-loop .loop .k) (at-loop .loop .bits) (at-loop .loop .inv .2) j h u),
+    )
 
 returns : tie.Need-returns Inv-loop μ-loop
-returns c k l = (c .before .loop) .inv .2 k (omega arith) (omega arith)
+returns c k l = c .before .loop .inv .2 k (omega arith) (omega arith)
 
 pub text-bits-spec : {M : Type 1} → statement M
 text-bits-spec =
