@@ -1,3 +1,4 @@
 mod Parts
 mod Hex
+mod Commas
 mod Throughout

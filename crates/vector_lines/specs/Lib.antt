@@ -1,4 +1,5 @@
 pub mod Parts
 pub mod Hex
 pub mod Numbers
+pub mod Words
 pub mod Throughout

@@ -1,5 +1,5 @@
-// Lines of stored vectors: fields apart by one space, numbers in decimal, bytes in hex. No public function requires anything;
-// what is not of this shape is refused.
+// Lines of stored vectors: fields apart by one space, numbers in decimal, words by commas, bytes in hex. No public function requires
+// anything; what is not of this shape is refused.
 ghost use mathlib.Core.Path.{_≡_};
 ghost use mathlib.Core.Bool.{true};
 ghost use mathlib.Core.List.{_++_};
@@ -8,6 +8,7 @@ ghost use lib.ListN.{length, getD, take, drop, replicate};
 ghost use Rattle.vector_lines.specs.Parts.{before, fieldOf, countOf, Past};
 ghost use Rattle.vector_lines.specs.Hex.{digitOf, paired, pairs, isNone, decoded};
 ghost use Rattle.vector_lines.specs.Numbers.{numberOf};
+ghost use Rattle.vector_lines.specs.Words.{isWord, wordOf, areWords, wordsOf, listed};
 ghost use Rattle.vector_lines.specs.Throughout.{allAre};
 
 pub enum Number {
@@ -18,6 +19,12 @@ pub enum Number {
 // How many bytes were decoded.
 pub enum Decoded {
     Bytes(usize),
+    Bad,
+}
+
+// How many words were read.
+pub enum Listed {
+    Words(usize),
     Bad,
 }
 
@@ -204,8 +211,85 @@ pub fn bytes(s: &[u8], out: &mut [u8]) -> Decoded
     Decoded::Bytes(n)
 }
 
+fn is_word(s: &[u8]) -> bool
+    ensures { λ r. ⌜ r ≡ isWord (now (s .entry)) ⌝ }
+{
+    match decimal(s) {
+        Number::Is(n) => n < 4_294_967_296,
+        Number::Bad => false,
+    }
+}
+
+fn word(s: &[u8]) -> u32
+    requires { ⌜ isWord (now s) ≡ true ⌝ }
+    ensures { λ r. ⌜ r ≡ wordOf (now (s .entry)) ⌝ }
+{
+    match decimal(s) {
+        Number::Is(n) => n as u32,
+        Number::Bad => 0,
+    }
+}
+
+// Whether the first `n` parts between commas are words.
+fn are_words(s: &[u8], n: usize) -> bool
+    ensures { λ r. ⌜ r ≡ areWords n (now (s .entry)) ⌝ }
+{
+    let mut at = 0;
+    let mut left = n;
+    while 0 < left {
+        left -= 1;
+        if !is_word(part(s, at, b',')) {
+            return false;
+        }
+        at = past(s, at, b',');
+    }
+    true
+}
+
+fn store_words(s: &[u8], n: usize, out: &mut [u32])
+    requires { ⌜ (areWords n (now s) ≡ true) × (n ≤ length (now out)) ⌝ }
+    ensures { λ _. ⌜ now (out .exit) ≡ wordsOf n (now (s .entry)) ++ drop n (now (out .entry)) ⌝ }
+{
+    let mut at = 0;
+    let mut i = 0;
+    while i < n {
+        out[i] = word(part(s, at, b','));
+        at = past(s, at, b',');
+        i += 1;
+    }
+}
+
+// The words that stand in decimal, apart by commas, into `out`; where they are none, or have no room, nothing is stored.
+pub fn words(s: &[u8], out: &mut [u32]) -> Listed
+    ensures { λ r. ⌜ (r, now (out .exit)) ≡ listed (now (s .entry)) (now (out .entry)) ⌝ }
+{
+    if is_none(s) {
+        return Listed::Words(0);
+    }
+    let commas = count(s, b',');
+    if out.len() <= commas {
+        return Listed::Bad;
+    }
+    let n = commas + 1;
+    if !are_words(s, n) {
+        return Listed::Bad;
+    }
+    store_words(s, n, out);
+    Listed::Words(n)
+}
+
 // The first `n` bytes, or all where there are fewer.
 pub fn front(s: &[u8], n: usize) -> &[u8]
+    ensures { λ r. ⌜ now r ≡ take n (now (s .entry)) ⌝ }
+{
+    if s.len() <= n {
+        return s;
+    }
+    &s[..n]
+}
+
+// The same of words.
+pub fn front_words(s: &[u32], n: usize) -> &[u32]
     ensures { λ r. ⌜ now r ≡ take n (now (s .entry)) ⌝ }
 {
     if s.len() <= n {
