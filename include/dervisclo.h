@@ -1,10 +1,10 @@
 /*
- * One GraphQL string literal, printed and read in memory that the caller lends, and the check of a node table.
+ * GraphQL documents and string literals, printed in memory that the caller lends; literals read; node tables checked.
  *
  * Link libgateway.a, which `rt staticlib gateway` proves and writes to target/staticlib. It is for x86-64.
  *
- * All functions answer 0 on success and otherwise the number of a refusal. The two of literals: no refusal changes a
- * byte of the output; a success changes no byte past the length that it reports. Both report at `length`
+ * All functions answer 0 on success and otherwise the number of a refusal. Those that take an output: no refusal changes
+ * a byte of it; a success changes no byte past the length that it reports. They report at `length`
  *   - on success the length written,
  *   - on DERVISCLO_ROOM the length that is needed, exactly, whatever the length of the output,
  *   - on any other refusal 0.
@@ -29,8 +29,8 @@ extern "C" {
 
 /* Answers. */
 #define DERVISCLO_SUCCESS 0u
-/* The prefix is over 16 bytes or has a byte other than space and tab; the level is over 128; description or breaks is
-   neither 0 nor 1. */
+/* The prefix is over 16 bytes or has a byte other than space and tab; the level is over 64 for a document, over 128 for
+   one literal; description or breaks is neither 0 nor 1. */
 #define DERVISCLO_SETTINGS 1u
 /* The value is over 65,536 bytes. Of a table: the words are not a multiple of 5, there is no node, there are over 8,192
    nodes, or the pool is over 65,536 bytes. */
@@ -114,6 +114,29 @@ uint32_t dervisclo_check_table(const uint32_t *words, size_t words_len, const ui
 uint32_t dervisclo_check_document(uint32_t breaks, const uint8_t *prefix, size_t prefix_len, uint64_t level,
                                   const uint32_t *words, size_t words_len, const uint8_t *pool, size_t pool_len,
                                   uint64_t *place);
+
+/*
+ * Prints the document that a node table stands for to the start of out.
+ *
+ * Settings and table are looked at as by dervisclo_check_document, and what that refuses is refused here with the same
+ * number and place. The text is that of apollo-compiler 1.33.0, but the first line is never indented; an empty document
+ * has an empty text.
+ *
+ *   breaks              1 for line breaks on, 0 for off; off, prefix and level are checked all the same
+ *   prefix, prefix_len  up to 16 spaces and tabs, written once per level after a line feed
+ *   level               up to 64
+ *   words, words_len    the table's words, as for dervisclo_check_table
+ *   pool, pool_len      its texts, likewise
+ *   out, out_len        the output
+ *   place               where the node is reported, as for dervisclo_check_table; 0 on DERVISCLO_ROOM
+ *   length              where the length is reported; it may pass 2^32
+ *
+ * Answers DERVISCLO_SUCCESS, DERVISCLO_SETTINGS, DERVISCLO_SIZE, DERVISCLO_NODE, DERVISCLO_NESTING, DERVISCLO_DEPTH,
+ * DERVISCLO_CHILDREN, DERVISCLO_TEXT or DERVISCLO_ROOM.
+ */
+uint32_t dervisclo_print_document(uint32_t breaks, const uint8_t *prefix, size_t prefix_len, uint64_t level,
+                                  const uint32_t *words, size_t words_len, const uint8_t *pool, size_t pool_len,
+                                  uint8_t *out, size_t out_len, uint64_t *place, uint64_t *length);
 
 #ifdef __cplusplus
 }

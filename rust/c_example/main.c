@@ -1,7 +1,7 @@
 /*
- * Prints a description of two lines, first to an output that is too short, and reads it back.
+ * Prints a description of two lines, first to an output that is too short, and reads it back. Then prints a document.
  *
- *     cc -std=c99 -I include rust/c_example/main.c target/staticlib/libgateway.a -o one_literal
+ *     cc -std=c99 -I include rust/c_example/main.c target/staticlib/libgateway.a -o c_example
  */
 #include "dervisclo.h"
 
@@ -11,6 +11,15 @@
 
 static const char value[] = "Says \"\"\" and\nends";
 static const char prefix[] = "  ";
+
+/* Two queries of one field each, five words a node: kind, variant, text start, text length, end. */
+static const uint32_t words[] = {
+    0,  0, 0, 0, 5, /* Document */
+    1,  0, 0, 0, 3, /* Operation */
+    29, 0, 0, 1, 3, /* Field, the first byte */
+    1,  0, 0, 0, 5, /* Operation */
+    29, 0, 1, 1, 5, /* Field, the second */
+};
 
 static uint32_t print_at_level_1(uint8_t *out, size_t out_len, uint64_t *length)
 {
@@ -63,6 +72,23 @@ static int reads_back(const uint8_t *text, uint64_t text_len)
     return length == strlen(value) && memcmp(room, value, (size_t)length) == 0;
 }
 
+/* Prints the table under the default settings, its texts in this pool. */
+static int prints_document(const char *pool)
+{
+    uint8_t room[64];
+    uint64_t place;
+    uint64_t length;
+    uint32_t answer = dervisclo_print_document(1, (const uint8_t *)prefix, strlen(prefix), 0, words,
+                                               sizeof words / sizeof words[0], (const uint8_t *)pool, strlen(pool),
+                                               room, sizeof room, &place, &length);
+    if (answer != DERVISCLO_SUCCESS) {
+        printf("printing a document answers %u, node %u\n", (unsigned)answer, (unsigned)place);
+        return 0;
+    }
+    show("document", room, length);
+    return 1;
+}
+
 int main(void)
 {
     uint64_t length;
@@ -80,5 +106,8 @@ int main(void)
     answer = dervisclo_read_literal(text, (size_t)length - 1, NULL, 0, &length, &form);
     printf("without its last byte: %u\n", (unsigned)answer);
     free(text);
+
+    /* no name begins with a digit */
+    same = same && prints_document("ab") && !prints_document("a1");
     return same ? EXIT_SUCCESS : EXIT_FAILURE;
 }

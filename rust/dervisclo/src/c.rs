@@ -74,4 +74,28 @@ unsafe extern "C" {
         pool_len: usize,
         place: *mut u64,
     ) -> u32;
+
+    /// Prints a document. Answers document 01's number: 0, or the refusal 1 to 8.
+    ///
+    /// `place` receives the smallest node with the fault on 3 to 7, and otherwise 0. `length` receives the length
+    /// written on 0, the needed length on 8, and 0 on any other refusal.
+    ///
+    /// # Safety
+    ///
+    /// As for the check of a document; `out` points to as many bytes as its length says, which may be written, and
+    /// `length` to a number that may be written. What may be written overlaps nothing else.
+    pub fn dervisclo_print_document(
+        breaks: u32,
+        prefix: *const u8,
+        prefix_len: usize,
+        level: u64,
+        words: *const u32,
+        words_len: usize,
+        pool: *const u8,
+        pool_len: usize,
+        out: *mut u8,
+        out_len: usize,
+        place: *mut u64,
+        length: *mut u64,
+    ) -> u32;
 }

@@ -1,8 +1,8 @@
-//! GraphQL string literals, printed and read in memory that the caller lends, and the check of a node table.
+//! GraphQL documents and string literals, printed in memory that the caller lends; literals read; node tables checked.
 //!
-//! The work is done by a proved library behind a C interface; this crate makes it safe to call. A literal is printed as
-//! the crate apollo-compiler 1.33.0 prints it, quoted or in block form, and what is printed reads back as exactly the
-//! value that it was printed from. A refusal changes no byte of the output, and a success none past what it wrote.
+//! The work is done by a proved library behind a C interface; this crate makes it safe to call. Documents and literals
+//! are printed as the crate apollo-compiler 1.33.0 prints them, and a printed literal reads back as exactly the value
+//! that it was printed from. A refusal changes no byte of the output, and a success none past what it wrote.
 //!
 //! ```
 //! use dervisclo::{print_literal, read_literal, Form, Kind, Refusal, Style};
@@ -35,13 +35,28 @@
 //! # Ok::<(), Refusal>(())
 //! ```
 //!
+//! A document is given as a node table. [`print_document`] prints it, [`print_document_to_vec`] into a vector of its
+//! own:
+//!
+//! ```
+//! use dervisclo::{print_document_to_vec, DocumentRefusal, Style};
+//!
+//! // The query `{ a }`: a Document, an Operation with no name, and a Field whose name is the pool's first byte.
+//! let words = [0, 0, 0, 0, 3, 1, 0, 0, 0, 3, 29, 0, 0, 1, 3];
+//! let text = print_document_to_vec(&words, b"a", &Style::default())?;
+//! assert_eq!(text, b"{\n  a\n}\n");
+//! # Ok::<(), DocumentRefusal>(())
+//! ```
+//!
 //! [`check_table`] says whether document 01 accepts a node table, and if not, why and at which node.
 
 #![warn(missing_docs)]
 
 pub mod c;
+mod document;
 mod table;
 
+pub use document::{print_document, print_document_to_vec, DocumentRefusal};
 pub use table::{check_document, check_table, TableRefusal};
 
 use std::error::Error;
@@ -71,11 +86,12 @@ pub enum Form {
 /// How to print. The default is line breaks on, a prefix of two spaces and level 0.
 #[derive(Clone, Copy, Debug, Eq, PartialEq)]
 pub struct Style<'a> {
-    /// Line breaks on. Off, every literal is quoted; prefix and level are checked all the same.
+    /// Line breaks on. Off, a document is one line and every literal is quoted; prefix and level are checked all the
+    /// same.
     pub breaks: bool,
     /// Written once per level after each line feed: at most 16 bytes, each a space or a tab.
     pub prefix: &'a [u8],
-    /// At most 128.
+    /// At most 64 for a document, and 128 for one literal.
     pub level: u64,
 }
 
@@ -89,7 +105,7 @@ impl Default for Style<'_> {
     }
 }
 
-/// Why nothing was printed or read. The lowest number that applies is given, and [`Refusal::Room`] only if no other is.
+/// Why no literal was printed or read. The lowest number that applies is given, and [`Refusal::Room`] only if no other is.
 #[derive(Clone, Copy, Debug, Eq, PartialEq)]
 pub enum Refusal {
     /// 1: the prefix is over 16 bytes or has a byte other than space and tab, or the level is over 128.

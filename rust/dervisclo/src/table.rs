@@ -8,8 +8,8 @@ use std::fmt;
 /// fault.
 #[derive(Clone, Copy, Debug, Eq, PartialEq)]
 pub enum TableRefusal {
-    /// 1: a prefix over 16 bytes or with a byte other than space and tab, or a level over 64. Only [`check_document`]
-    /// answers it.
+    /// 1: a prefix over 16 bytes or with a byte other than space and tab, or a level over 64. [`check_table`], which is
+    /// given no style, never answers it.
     Settings,
     /// 2: the words are not a multiple of five, there is no node or over 8,192, or the pool is over 65,536 bytes.
     Size,
@@ -67,7 +67,7 @@ impl TableRefusal {
         }
     }
 
-    fn from_answer(number: u32, place: usize) -> Self {
+    pub(crate) fn from_answer(number: u32, place: usize) -> Self {
         match number {
             1 => Self::Settings,
             2 => Self::Size,

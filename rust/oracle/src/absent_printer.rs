@@ -12,6 +12,18 @@ pub fn print_document(_: &[u32], _: &[u8], _: &Settings) -> String {
     absent()
 }
 
+pub struct Tree;
+
+impl Tree {
+    pub fn new(_: &[u32], _: &[u8]) -> Self {
+        absent()
+    }
+
+    pub fn print_to(&self, _: &Settings, _: &mut String) {
+        absent()
+    }
+}
+
 pub fn display_document(_: &[u32], _: &[u8], _: &Settings) -> String {
     absent()
 }

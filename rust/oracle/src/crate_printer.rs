@@ -1,9 +1,10 @@
 //! The crate's own printer, called from its unchanged sources.
 
 use crate::ast::serialize::{BareDocument, BareLiteral};
-use crate::ast::Value;
+use crate::ast::{Document, Value};
 use crate::settings::Settings;
 use crate::tree;
+use std::fmt::Write;
 
 /// Are the crate's sources compiled in?
 pub const PRESENT: bool = true;
@@ -22,12 +23,28 @@ pub const SOURCES: [(&str, &[u8]); 2] = [
 
 /// An accepted table's text by the crate, no indent before the first line, as document 01 has it.
 pub fn print_document(words: &[u32], pool: &[u8], settings: &Settings) -> String {
-    BareDocument {
-        document: &tree::document(words, pool),
-        prefix: settings.indent_prefix(),
-        level: settings.level,
+    let mut text = String::new();
+    Tree::new(words, pool).print_to(settings, &mut text);
+    text
+}
+
+/// An accepted table as the crate's tree, to be printed any number of times.
+pub struct Tree(Document);
+
+impl Tree {
+    pub fn new(words: &[u32], pool: &[u8]) -> Self {
+        Self(tree::document(words, pool))
     }
-    .to_string()
+
+    /// Adds what [`print_document`] gives.
+    pub fn print_to(&self, settings: &Settings, text: &mut String) {
+        let document = BareDocument {
+            document: &self.0,
+            prefix: settings.indent_prefix(),
+            level: settings.level,
+        };
+        write!(text, "{document}").unwrap();
+    }
 }
 
 /// An accepted table's text by the crate's Display.
