@@ -1,6 +1,7 @@
-//! The three C functions as the runs call them: with any numbers, and with everything that they report.
+//! The C functions as the runs call them: with any numbers, and with everything that they report.
 
 use dervisclo::c;
+use oracle::generate::OwnTable;
 use oracle::Settings;
 use std::ptr;
 
@@ -35,7 +36,7 @@ pub struct Answer {
     pub form: u32,
 }
 
-/// What stands behind `length` and `form` before a call: no answer has it.
+/// What stands behind `length`, `form` and `place` before a call: no answer has it.
 const UNWRITTEN: u32 = 0x5555_5555;
 
 /// How an empty slice is passed.
@@ -114,6 +115,13 @@ pub struct Checked {
     pub place: u64,
 }
 
+impl Checked {
+    pub const ACCEPTED: Self = Self {
+        number: 0,
+        place: 0,
+    };
+}
+
 pub fn check(words: &[u32], pool: &[u8], empty: Empty) -> Checked {
     let mut place = u64::from(UNWRITTEN);
     // SAFETY: as above.
@@ -123,6 +131,82 @@ pub fn check(words: &[u32], pool: &[u8], empty: Empty) -> Checked {
             words.len(),
             empty.pointer(pool),
             pool.len(),
+            &mut place,
+        )
+    };
+    Checked { number, place }
+}
+
+/// What printing a document is given beside the output.
+#[derive(Clone, Copy)]
+pub struct Document<'a> {
+    pub breaks: u32,
+    pub prefix: &'a [u8],
+    pub level: u64,
+    pub words: &'a [u32],
+    pub pool: &'a [u8],
+}
+
+impl<'a> Document<'a> {
+    pub fn new(table: &'a OwnTable, settings: &'a Settings) -> Self {
+        Self {
+            breaks: u32::from(settings.breaks),
+            prefix: settings.prefix.as_bytes(),
+            level: settings.level as u64,
+            words: &table.words,
+            pool: &table.pool,
+        }
+    }
+}
+
+/// What printing a document answers: the number, and what the call left behind `place` and `length`.
+#[derive(Clone, Copy, Debug, Eq, PartialEq)]
+pub struct Printed {
+    pub number: u32,
+    pub place: u64,
+    pub length: u64,
+}
+
+pub fn print_document(document: &Document<'_>, empty: Empty, out: &mut [u8]) -> Printed {
+    let mut place = u64::from(UNWRITTEN);
+    let mut length = u64::from(UNWRITTEN);
+    // SAFETY: as above.
+    let number = unsafe {
+        c::dervisclo_print_document(
+            document.breaks,
+            empty.pointer(document.prefix),
+            document.prefix.len(),
+            document.level,
+            empty.pointer(document.words),
+            document.words.len(),
+            empty.pointer(document.pool),
+            document.pool.len(),
+            empty.pointer_mut(out),
+            out.len(),
+            &mut place,
+            &mut length,
+        )
+    };
+    Printed {
+        number,
+        place,
+        length,
+    }
+}
+
+pub fn check_document(document: &Document<'_>, empty: Empty) -> Checked {
+    let mut place = u64::from(UNWRITTEN);
+    // SAFETY: as above.
+    let number = unsafe {
+        c::dervisclo_check_document(
+            document.breaks,
+            empty.pointer(document.prefix),
+            document.prefix.len(),
+            document.level,
+            empty.pointer(document.words),
+            document.words.len(),
+            empty.pointer(document.pool),
+            document.pool.len(),
             &mut place,
         )
     };

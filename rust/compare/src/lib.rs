@@ -4,9 +4,14 @@
 pub mod baseline;
 pub mod bench;
 pub mod call;
+pub mod changes;
+pub mod documents;
 pub mod judge;
 pub mod lent;
 pub mod literals;
+pub mod numbers;
+pub mod registry;
 pub mod shapes;
 pub mod tables;
+pub mod vectors;
 pub mod wanted;

@@ -1,9 +1,10 @@
-use compare::{bench, literals, tables};
+use compare::{bench, documents, literals, tables};
 use oracle::run::Tally;
 use std::process::ExitCode;
 
 const USAGE: &str = "usage: compare literals [seed]
        compare tables [seed]
+       compare documents [seed]
        compare bench [rounds]";
 
 const SEED: u64 = 1;
@@ -25,6 +26,10 @@ fn main() -> ExitCode {
         ("tables", Ok(seed)) => {
             let plan = tables::Plan::full(seed.unwrap_or(SEED));
             ended(tables::run(&plan))
+        }
+        ("documents", Ok(seed)) => {
+            let plan = documents::Plan::full(seed.unwrap_or(SEED));
+            ended(documents::run(&plan))
         }
         ("bench", Ok(rounds)) => {
             bench::run(rounds.map_or(ROUNDS, |rounds| rounds as usize));

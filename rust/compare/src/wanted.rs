@@ -1,24 +1,23 @@
 //! What document 01 says of a call, the room left out.
 
-use crate::call::Print;
+use crate::call::{Checked, Document, Print};
 use oracle::plain_read::{self, block_value, Form, NotOneLiteral};
-use oracle::{crate_printer, plain_print, Settings};
+use oracle::{crate_printer, plain_check, plain_print, Settings};
 
 pub const LONGEST_VALUE: usize = 65_536;
 pub const LONGEST_PREFIX: usize = 16;
 pub const HIGHEST_LEVEL: u64 = 128;
+pub const HIGHEST_DOCUMENT_LEVEL: u64 = 64;
 
 /// A literal's form and value, or refusal 9.
 pub type Reading = Result<(Form, Vec<u8>), NotOneLiteral>;
 
 /// The literal, or the number of the refusal.
 pub fn printed(print: &Print<'_>) -> Result<Vec<u8>, u32> {
-    let is_blank = |&byte: &u8| byte == b' ' || byte == b'\t';
     if print.description > 1
         || print.breaks > 1
         || print.level > HIGHEST_LEVEL
-        || print.prefix.len() > LONGEST_PREFIX
-        || !print.prefix.iter().all(is_blank)
+        || !is_prefix(print.prefix)
     {
         return Err(1);
     }
@@ -26,15 +25,65 @@ pub fn printed(print: &Print<'_>) -> Result<Vec<u8>, u32> {
         return Err(2);
     }
     let value = std::str::from_utf8(print.value).map_err(|_| 7_u32)?;
-    let settings = Settings {
-        breaks: print.breaks == 1,
-        prefix: String::from_utf8_lossy(print.prefix).into(),
-        level: print.level as usize,
-    };
+    let settings = settings(print.breaks, print.prefix, print.level);
     Ok(literal(value, print.description == 1, &settings))
 }
 
-/// By the crate's own printer, or by the plain one where the crate's sources are absent.
+fn is_prefix(prefix: &[u8]) -> bool {
+    let is_blank = |&byte: &u8| byte == b' ' || byte == b'\t';
+    prefix.len() <= LONGEST_PREFIX && prefix.iter().all(is_blank)
+}
+
+fn settings(breaks: u32, prefix: &[u8], level: u64) -> Settings {
+    Settings {
+        breaks: breaks == 1,
+        prefix: String::from_utf8_lossy(prefix).into(),
+        level: level as usize,
+    }
+}
+
+/// The document's text, or the refusal.
+pub fn document(document: &Document<'_>) -> Result<Vec<u8>, Checked> {
+    let Document {
+        breaks,
+        prefix,
+        level,
+        words,
+        pool,
+    } = *document;
+    if breaks > 1 || level > HIGHEST_DOCUMENT_LEVEL || !is_prefix(prefix) {
+        return Err(Checked {
+            number: 1,
+            place: 0,
+        });
+    }
+    match checked(words, pool) {
+        Checked::ACCEPTED => Ok(text(words, pool, &settings(breaks, prefix, level))),
+        refusal => Err(refusal),
+    }
+}
+
+/// What the plain checker says.
+pub fn checked(words: &[u32], pool: &[u8]) -> Checked {
+    match plain_check::is_valid(words, pool) {
+        Ok(()) => Checked::ACCEPTED,
+        Err(refusal) => Checked {
+            number: refusal.number,
+            place: refusal.place as u64,
+        },
+    }
+}
+
+/// An accepted table's text, by the crate's own printer, or by the plain one where the crate's sources are absent.
+pub fn text(words: &[u32], pool: &[u8], settings: &Settings) -> Vec<u8> {
+    if crate_printer::PRESENT {
+        crate_printer::print_document(words, pool, settings).into_bytes()
+    } else {
+        plain_print::print_document(words, pool, settings)
+    }
+}
+
+/// One literal's text, likewise.
 pub fn literal(value: &str, is_description: bool, settings: &Settings) -> Vec<u8> {
     if crate_printer::PRESENT {
         crate_printer::print_literal(value, is_description, settings).into_bytes()

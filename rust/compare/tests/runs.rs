@@ -1,6 +1,6 @@
 //! The comparisons at a small size, and the plain Rust of the benchmark against the oracle.
 
-use compare::{baseline, literals, tables, wanted};
+use compare::{baseline, documents, literals, registry, tables, wanted};
 use dervisclo::{Form, Kind, Refusal, Style};
 use oracle::plain_read;
 use oracle::run::literals::short_values;
@@ -18,6 +18,13 @@ fn comparison_of_tables_has_no_failure() {
     let tally = tables::run(&tables::Plan::small(2));
     assert_eq!(tally.failed, 0);
     assert!(tally.passed > 30_000, "{tally}");
+}
+
+#[test]
+fn comparison_of_documents_has_no_failure() {
+    let tally = documents::run(&documents::Plan::small(2));
+    assert_eq!(tally.failed, 0);
+    assert!(tally.passed > 100_000, "{tally}");
 }
 
 #[test]
@@ -63,6 +70,27 @@ fn plain_rust_reads_as_wanted() {
                 Err(_) => Err(Refusal::Literal),
             };
             assert_eq!(answer, wanted, "{text:?}");
+        }
+    }
+}
+
+#[test]
+fn registry_is_accepted() {
+    for seed in 0..3 {
+        for nodes in [700, 8_000, 8_192] {
+            for table in [
+                registry::schema(seed, nodes),
+                registry::requests(seed, nodes),
+            ] {
+                assert_eq!(table.nodes(), nodes);
+                let (words, pool) = (&table.words, &table.pool);
+                assert_eq!(
+                    dervisclo::check_table(words, pool),
+                    Ok(()),
+                    "pool of {} bytes",
+                    pool.len()
+                );
+            }
         }
     }
 }

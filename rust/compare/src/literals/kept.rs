@@ -3,12 +3,10 @@
 use super::Plan;
 use crate::call::Print;
 use crate::judge::Judge;
+use crate::vectors::{file, settings, unhex};
 use crate::wanted::{self, Reading};
 use oracle::plain_read::{Form, NotOneLiteral};
 use oracle::run::known;
-use oracle::run::rows::{bytes, rows};
-use oracle::Settings;
-use std::path::Path;
 
 /// Printed to outputs of every length; then texts of up to twelve quotes are read.
 pub fn known(judge: &mut Judge, _: &Plan) {
@@ -36,11 +34,7 @@ pub fn vectors(judge: &mut Judge, _: &Plan) {
         let [kind, breaks, level, prefix, value, text] = &fields[..] else {
             panic!("literals.txt: {fields:?}");
         };
-        let settings = Settings {
-            breaks: breaks == "1",
-            prefix: String::from_utf8(unhex(prefix)).unwrap(),
-            level: level.parse().unwrap(),
-        };
+        let settings = settings(breaks, level, prefix);
         let (value, text) = (unhex(value), unhex(text));
         let print = Print::new(&value, kind == "d", &settings);
         judge.print_at(&print, [0, text.len() - 1, text.len() + 3], Ok(&text));
@@ -58,21 +52,4 @@ pub fn vectors(judge: &mut Judge, _: &Plan) {
         let length = unhex(value).len();
         judge.read_at(&unhex(text), 0..=length + 1, &wanted);
     }
-}
-
-/// The fields of each line.
-fn file(name: &str) -> Vec<Vec<String>> {
-    let path = Path::new(env!("CARGO_MANIFEST_DIR"))
-        .join("../../vectors")
-        .join(name);
-    let content = std::fs::read_to_string(&path).unwrap_or_else(|e| panic!("{name}: {e}"));
-    let own = |fields: Vec<&str>| fields.into_iter().map(String::from).collect();
-    rows(&content)
-        .into_iter()
-        .map(|(_, fields)| own(fields))
-        .collect()
-}
-
-fn unhex(hex: &str) -> Vec<u8> {
-    bytes(hex).unwrap_or_else(|| panic!("not hex: {hex}"))
 }

@@ -10,6 +10,8 @@ mod short;
 mod unicode;
 mod wrapper;
 
+pub use random::any_value;
+
 use crate::judge::Judge;
 use oracle::crate_printer;
 use oracle::rng::Rng;

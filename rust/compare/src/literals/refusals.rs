@@ -3,57 +3,10 @@
 use super::Plan;
 use crate::call::{Empty, Print};
 use crate::judge::Judge;
+use crate::numbers::{LEVELS, SWITCHES};
 use crate::wanted::{HIGHEST_LEVEL, LONGEST_PREFIX, LONGEST_VALUE};
 
 const VALUES: [&[u8]; 4] = [b"", b"abc", b"a\nb", b"a\n\n \n\"\"\""];
-
-/// Within the limit, just past it, and past it by what a narrower number would lose.
-const LEVELS: [u64; 26] = [
-    0,
-    1,
-    2,
-    63,
-    64,
-    65,
-    127,
-    128,
-    129,
-    130,
-    255,
-    256,
-    257,
-    384,
-    1 << 16,
-    (1 << 16) + 1,
-    (1 << 31) - 1,
-    1 << 31,
-    (1 << 32) - 1,
-    1 << 32,
-    (1 << 32) + 1,
-    (1 << 32) + 128,
-    1 << 63,
-    (1 << 63) + 1,
-    u64::MAX - 1,
-    u64::MAX,
-];
-
-/// As `LEVELS`, of numbers that stand for yes or no.
-const SWITCHES: [u32; 14] = [
-    0,
-    1,
-    2,
-    3,
-    127,
-    128,
-    255,
-    256,
-    257,
-    1 << 16,
-    (1 << 16) + 1,
-    1 << 31,
-    (1 << 31) + 1,
-    u32::MAX,
-];
 
 /// Each value as both kinds, with breaks on and off.
 fn each(judge: &mut Judge, prefix: &[u8], level: u64) {

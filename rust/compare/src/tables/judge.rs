@@ -1,8 +1,8 @@
 //! Calls the library and holds each answer against the plain checker's.
 
 use crate::call::{self, Checked, Empty};
+use crate::wanted;
 use oracle::generate::OwnTable;
-use oracle::plain_check;
 use oracle::run::Tally;
 use std::collections::BTreeSet;
 
@@ -28,7 +28,7 @@ impl Judge {
 
     /// Asks for the plain checker's answer.
     pub fn check(&mut self, words: &[u32], pool: &[u8]) -> Checked {
-        let wanted = wanted(words, pool);
+        let wanted = wanted::checked(words, pool);
         self.is(words, pool, wanted);
         wanted
     }
@@ -47,12 +47,9 @@ impl Judge {
 
     /// Asks for the plain checker's answer by the safe wrapper.
     pub fn wrapper(&mut self, words: &[u32], pool: &[u8]) {
-        let wanted = wanted(words, pool);
+        let wanted = wanted::checked(words, pool);
         let answer = match dervisclo::check_table(words, pool) {
-            Ok(()) => Checked {
-                number: 0,
-                place: 0,
-            },
+            Ok(()) => Checked::ACCEPTED,
             Err(refusal) => Checked {
                 number: refusal.number(),
                 place: refusal.place() as u64,
@@ -87,20 +84,6 @@ impl Judge {
         }
         let places: BTreeSet<u64> = self.places.iter().flatten().copied().collect();
         println!("{} places in all", places.len());
-    }
-}
-
-/// What the plain checker says.
-pub fn wanted(words: &[u32], pool: &[u8]) -> Checked {
-    match plain_check::is_valid(words, pool) {
-        Ok(()) => Checked {
-            number: 0,
-            place: 0,
-        },
-        Err(refusal) => Checked {
-            number: refusal.number,
-            place: refusal.place as u64,
-        },
     }
 }
 

@@ -1,15 +1,11 @@
 //! Tables at the limits of size, and past them.
 
-use super::judge::wanted;
 use super::{Judge, Plan};
 use crate::call::{Checked, Empty};
-use crate::shapes;
+use crate::{shapes, wanted};
 use oracle::table::{MOST_NODES, MOST_POOL, WORDS};
 
-const ACCEPTED: Checked = Checked {
-    number: 0,
-    place: 0,
-};
+const ACCEPTED: Checked = Checked::ACCEPTED;
 const SIZE: Checked = Checked {
     number: 2,
     place: 0,
@@ -116,7 +112,7 @@ fn highest_words(judge: &mut Judge) {
 fn nulls(judge: &mut Judge) {
     for words in [&[][..], &[0, 0, 0, 0, 1], &[0, 0, 0, 0, 2], &[7]] {
         for pool in [&b""[..], b"a"] {
-            judge.is_by(words, pool, wanted(words, pool), Empty::Null);
+            judge.is_by(words, pool, wanted::checked(words, pool), Empty::Null);
             judge.wrapper(words, pool);
         }
     }
