@@ -8,7 +8,6 @@ const USAGE: &str = "usage: compare literals [seed]
        compare bench [rounds]";
 
 const SEED: u64 = 1;
-const ROUNDS: usize = 301;
 
 fn main() -> ExitCode {
     let arguments: Vec<String> = std::env::args().skip(1).collect();
@@ -32,7 +31,7 @@ fn main() -> ExitCode {
             ended(documents::run(&plan))
         }
         ("bench", Ok(rounds)) => {
-            bench::run(rounds.map_or(ROUNDS, |rounds| rounds as usize));
+            bench::run(rounds.map(|rounds| rounds as usize));
             ExitCode::SUCCESS
         }
         _ => {

@@ -28,7 +28,7 @@ pub fn all_settings() -> Vec<Settings> {
     all
 }
 
-/// Each under two settings.
+/// All settings in turn, and others for every third table.
 pub fn tables(judge: &mut Judge, plan: &Plan) {
     let mut rng = plan.rng(1);
     let all = all_settings();
@@ -37,7 +37,8 @@ pub fn tables(judge: &mut Judge, plan: &Plan) {
     let mut seen = [Coverage::default(), Coverage::default()];
     for number in 0..plan.tables {
         let table = any_table(&mut rng, number);
-        for at in [number / 2 % all.len(), rng.below(all.len())] {
+        let one_more = (number % 3 == 0).then(|| rng.below(all.len()));
+        for at in one_more.into_iter().chain([number / 2 % all.len()]) {
             used[at] += 1;
             seen[usize::from(all[at].breaks)].add(&table.words, &table.pool);
             judge.accepted(&table, &all[at]);
