@@ -58,3 +58,14 @@ pub record ToldPlace (a : Answer) (n i : ℕ) : Type 0 where
 
 pub told-place : {a : Answer} (c : Checked) {n i : ℕ} → checkedAnswer c ≡ a → n ≡ checkedAnswer c .number → i ≡ checkedAnswer c .place → ToldPlace a n i
 told-place {a} c {n} {i} e f g = subst (λ (x : Answer). ToldPlace x n i) e (record { number = f; place = g })
+
+-- a document's outcome: number, place, length and output
+pub record ToldWhole (o : Outcome) (n i l : ℕ) (d : List ℕ) : Type 0 where
+  pub number : n ≡ o .0 .number
+  pub place : i ≡ o .0 .place
+  pub length : l ≡ o .0 .length
+  pub output : d ≡ o .1
+
+pub told-whole : {o : Outcome} {a : Answer} {d : List ℕ} {n i l : ℕ} → o ≡ (a, d) → n ≡ a .number → i ≡ a .place → l ≡ a .length → ToldWhole o n i l d
+told-whole {o} {a} {d} {n} {i} {l} e f g h =
+    subst (λ (x : Outcome). ToldWhole x n i l d) (sym e) (record { number = f; place = g; length = h; output = refl })

@@ -7,7 +7,7 @@ use lib.Dec.{eqb, ltb}
 use borrow.Author.Tests.{lt-ltb, le-ltb}
 use Rattle.meaning.specs.Settings.{settings}
 use Rattle.meaning.specs.Answers.{Answer, answer}
-use Rattle.meaning.specs.Entries.{printedLiteral, printedLiteralByNumbers, checkedDocument, checkedDocumentByNumbers}
+use Rattle.meaning.specs.Entries.{printedLiteral, printedLiteralByNumbers, checkedDocument, checkedDocumentByNumbers, printedDocument, printedDocumentByNumbers}
 use Rattle.gateway.specs.Numbers.{ToldPlace}
 
 module _ (breaks : ℕ) (prefix : List ℕ) (level description : ℕ) (value out : List ℕ) where
@@ -34,3 +34,13 @@ module _ (breaks : ℕ) (prefix : List ℕ) (level : ℕ) (w p : List ℕ) where
   pub switch-tells : breaks ≤ 1 → checkedDocument (settings (eqb breaks 1) prefix level) w p ≡ checkedDocumentByNumbers breaks prefix level w p
   unfolding checkedDocumentByNumbers
   switch-tells h = rw (le-ltb 1 breaks h)
+
+-- and of its printing
+module _ (breaks : ℕ) (prefix : List ℕ) (level : ℕ) (w p out : List ℕ) where
+  pub no-such-breaks-for-documents : 1 < breaks → printedDocumentByNumbers breaks prefix level w p out ≡ (answer 1 0 0, out)
+  unfolding printedDocumentByNumbers
+  no-such-breaks-for-documents h = rw (lt-ltb 1 breaks h)
+
+  pub breaks-tell : breaks ≤ 1 → printedDocumentByNumbers breaks prefix level w p out ≡ printedDocument (settings (eqb breaks 1) prefix level) w p out
+  unfolding printedDocumentByNumbers
+  breaks-tell h = rw (le-ltb 1 breaks h)

@@ -2,8 +2,8 @@
 ghost use mathlib.Core.Path.{_≡_};
 ghost use mathlib.Core.Option.{some};
 ghost use Rattle.meaning.specs.Answers.{refusalAnswer, checkedAnswer, printedAnswer, readingAnswer, formRead};
-ghost use Rattle.meaning.specs.Entries.{printedLiteralByNumbers, readLiteral, checkedTable, checkedDocumentByNumbers};
-ghost use Rattle.gateway.specs.Numbers.{formNumber, Told, ToldForm, ToldPlace};
+ghost use Rattle.meaning.specs.Entries.{printedLiteralByNumbers, readLiteral, checkedTable, checkedDocumentByNumbers, printedDocumentByNumbers};
+ghost use Rattle.gateway.specs.Numbers.{formNumber, Told, ToldForm, ToldPlace, ToldWhole};
 
 fn number(r: meaning::Refusal) -> u32
     ensures { λ n. ⌜ n ≡ refusalAnswer r .number ⌝ }
@@ -204,4 +204,38 @@ pub extern "C" fn dervisclo_check_document(
     let answer = check_table::check_document(breaks == 1, prefix, level as usize, words, pool);
     *place = checked_place(answer);
     checked_number(answer)
+}
+
+fn printed_place(p: meaning::Printed) -> u64
+    ensures { λ n. ⌜ n ≡ printedAnswer p .place ⌝ }
+{
+    let meaning::Printed::Refused(r) = p else {
+        return 0;
+    };
+    place_of(r)
+}
+
+// A table's document under these settings: its length, or the lowest refusal with its place or the needed length.
+#[no_mangle]
+pub extern "C" fn dervisclo_print_document(
+    breaks: u32,
+    prefix: &[u8],
+    level: u64,
+    words: &[u32],
+    pool: &[u8],
+    out: &mut [u8],
+    place: &mut u64,
+    length: &mut u64,
+) -> u32
+    ensures { λ r. ⌜ ToldWhole (printedDocumentByNumbers breaks (now (prefix .entry)) level (now (words .entry)) (now (pool .entry)) (now (out .entry))) r (now (place .exit)) (now (length .exit)) (now (out .exit)) ⌝ }
+{
+    if 1 < breaks {
+        *place = 0;
+        *length = 0;
+        return 1;
+    }
+    let answer = document::print_document(breaks == 1, prefix, level as usize, words, pool, out);
+    *place = printed_place(answer);
+    *length = printed_length(answer);
+    printed_number(answer)
 }

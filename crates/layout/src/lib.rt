@@ -108,10 +108,10 @@ pub fn write_gap(gap: Gap, prefix: &[u8], state: State, out: &mut [u8], at: Walk
 }
 
 // The comma after the last item of a list.
-pub fn trailing_comma(state: State, out: &mut [u8], at: Walk) -> Walk
-    ensures { λ r. ⌜ Kept (now (out .entry)) at (lastComma (state .breaks)) (now (out .exit)) r ⌝ }
+pub fn trailing_comma(list: State, out: &mut [u8], at: Walk) -> Walk
+    ensures { λ r. ⌜ Kept (now (out .entry)) at (lastComma (list .breaks)) (now (out .exit)) r ⌝ }
 {
-    if state.breaks {
+    if list.breaks {
         return token(out, at, b",");
     }
     at

@@ -87,3 +87,9 @@ unfoldable pub printedDocument : Settings → List ℕ → List ℕ → List ℕ
 unfolding settingsFault verdict documentText treeOf written
 printedDocument s w p out =
     if settingsFault documentLevels s then refusing 1 0 out else printedOf (verdict w p) (documentText s (treeOf w p)) out
+
+-- the same at the C interface, where breaks is a number
+unfoldable pub printedDocumentByNumbers : ℕ → List ℕ → ℕ → List ℕ → List ℕ → List ℕ → Outcome
+unfolding switchFault printedDocument
+printedDocumentByNumbers breaks prefix level w p out =
+    if switchFault breaks then refusing 1 0 out else printedDocument (settings (eqb breaks 1) prefix level) w p out

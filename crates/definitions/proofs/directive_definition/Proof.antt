@@ -13,7 +13,6 @@ use native.Mathlib.Omega.{arith}
 use Prim.Native.Nat.{_+_, _-_}
 use mathlib.Core.List.{List, [], _∷_, _++_}
 use mathlib.Core.Path.{_≡_, refl, sym, ap, _∙_}
-use borrow.Author.Needs.{needs}
 use Rattle.definitions.proofs.directive_definition.Statement.{statement}
 use Rattle.definitions.proofs.directive_definition.Tie as tie
 
@@ -21,10 +20,10 @@ serialize-description-requires : tie.Need-serialize-description-requires
 serialize-description-requires c κs = (rest-ranged ((c .before .before .before .before .before .pre) .jobs .rest), (c .before .before .before .before .before .pre) .jobs .table)
 
 slice-aggregate-token : tie.Need-slice-aggregate-token
-slice-aggregate-token c = search needs
+slice-aggregate-token c = refl
 
 token-requires : tie.Need-token-requires
-token-requires c κs = search needs
+token-requires c κs = tt
 
 name-requires : tie.Need-name-requires
 name-requires c κs = (c .before .before .before .before .before .before .before .before .before .before .before .before .before .before .pre) .text
@@ -33,16 +32,16 @@ arguments-definition-requires : tie.Need-arguments-definition-requires
 arguments-definition-requires c κs = jobs-kept (jobs-kept (jobs-walked ((c .before .before .before .before .before .before .before .before .before .before .before .before .before .before .before .before .before .before .pre) .jobs) ((c .before .before .before .before .before .before .before .before .before .before .before .before .serialize-description) .ensures 0 .walked)) ((c .before .before .before .before .before .before .before .token) .ensures)) ((c .before .before .before .name) .ensures)
 
 slice-aggregate-if-one : tie.Need-slice-aggregate-if-one
-slice-aggregate-if-one c = search needs
+slice-aggregate-if-one c = refl
 
 if-one-requires : tie.Need-if-one-requires
 if-one-requires c κs = (c .before .before .before .before .before .before .before .before .before .before .before .before .before .before .before .before .before .before .before .before .before .before .before .pre) .text .node
 
 slice-aggregate-token-2 : tie.Need-slice-aggregate-token-2
-slice-aggregate-token-2 c = search needs
+slice-aggregate-token-2 c = refl
 
 token-requires-2 : tie.Need-token-requires-2
-token-requires-2 c κs = search needs
+token-requires-2 c κs = tt
 
 listed-requires : tie.Need-listed-requires
 listed-requires c κs = jobs-kept (jobs-walked (jobs-walked (jobs-kept (jobs-kept (jobs-walked ((c .before .before .before .before .before .before .before .before .before .before .before .before .before .before .before .before .before .before .before .before .before .before .before .before .before .before .before .before .before .before .before .before .pre) .jobs) ((c .before .before .before .before .before .before .before .before .before .before .before .before .before .before .before .before .before .before .before .before .before .before .before .before .before .before .serialize-description) .ensures 0 .walked)) ((c .before .before .before .before .before .before .before .before .before .before .before .before .before .before .before .before .before .before .before .before .before .token) .ensures)) ((c .before .before .before .before .before .before .before .before .before .before .before .before .before .before .before .before .before .name) .ensures)) ((c .before .before .before .before .before .before .before .before .before .before .before .before .before .arguments-definition) .ensures 0 .walked)) ((c .before .before .before .before .before .before .before .before .if-one) .ensures _ defaultSettings _ (sp ++ token "repeatable") refl refl .walked)) ((c .before .before .before .token2) .ensures)

@@ -13,24 +13,23 @@ use native.Mathlib.Omega.{arith}
 use Prim.Native.Nat.{_+_, _-_}
 use mathlib.Core.List.{List, [], _∷_, _++_}
 use mathlib.Core.Path.{_≡_, refl, sym, ap, _∙_}
-use borrow.Author.Needs.{needs}
 use Rattle.definitions.proofs.fragment.Statement.{statement}
 use Rattle.definitions.proofs.fragment.Tie as tie
 
 slice-aggregate-token : tie.Need-slice-aggregate-token
-slice-aggregate-token c = search needs
+slice-aggregate-token c = refl
 
 token-requires : tie.Need-token-requires
-token-requires c κs = search needs
+token-requires c κs = tt
 
 name-requires : tie.Need-name-requires
 name-requires c κs = (c .before .before .before .before .before .before .before .before .before .before .pre) .text
 
 slice-aggregate-token-2 : tie.Need-slice-aggregate-token-2
-slice-aggregate-token-2 c = search needs
+slice-aggregate-token-2 c = refl
 
 token-requires-2 : tie.Need-token-requires-2
-token-requires-2 c κs = search needs
+token-requires-2 c κs = tt
 
 one-requires : tie.Need-one-requires
 one-requires c κs = here (jobs-kept (jobs-kept (jobs-kept ((c .before .before .before .before .before .before .before .before .before .before .before .before .before .before .before .before .before .before .before .pre) .jobs) ((c .before .before .before .before .before .before .before .before .before .before .before .before .token) .ensures)) ((c .before .before .before .before .before .before .before .before .name) .ensures)) ((c .before .before .before .token2) .ensures))

@@ -13,15 +13,14 @@ use native.Mathlib.Omega.{arith}
 use Prim.Native.Nat.{_+_, _-_}
 use mathlib.Core.List.{List, [], _∷_, _++_}
 use mathlib.Core.Path.{_≡_, refl, sym, ap, _∙_}
-use borrow.Author.Needs.{needs}
 use Rattle.definitions.proofs.object.Statement.{statement}
 use Rattle.definitions.proofs.object.Tie as tie
 
 slice-aggregate-token : tie.Need-slice-aggregate-token
-slice-aggregate-token c = search needs
+slice-aggregate-token c = refl
 
 token-requires : tie.Need-token-requires
-token-requires c κs = search needs
+token-requires c κs = tt
 
 object-type-like-requires : tie.Need-object-type-like-requires
 object-type-like-requires c κs = parts-kept ((c .before .before .before .before .before .before .before .before .before .before .pre)) ((c .before .before .before .token) .ensures)

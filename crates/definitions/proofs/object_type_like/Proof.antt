@@ -13,7 +13,6 @@ use native.Mathlib.Omega.{arith}
 use Prim.Native.Nat.{_+_, _-_}
 use mathlib.Core.List.{List, [], _∷_, _++_}
 use mathlib.Core.Path.{_≡_, refl, sym, ap, _∙_}
-use borrow.Author.Needs.{needs}
 use Rattle.definitions.proofs.object_type_like.Statement.{statement}
 use Rattle.definitions.proofs.object_type_like.Tie as tie
 
@@ -21,7 +20,7 @@ name-requires : tie.Need-name-requires
 name-requires c κs = (c .before .before .before .before .before .pre) .text
 
 slice-aggregate-listed-after : tie.Need-slice-aggregate-listed-after
-slice-aggregate-listed-after c = search needs
+slice-aggregate-listed-after c = refl
 
 listed-after-requires : tie.Need-listed-after-requires
 listed-after-requires c κs = jobs-kept ((c .before .before .before .before .before .before .before .before .before .before .pre) .jobs) ((c .before .before .before .before .name) .ensures)

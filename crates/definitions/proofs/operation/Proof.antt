@@ -13,7 +13,6 @@ use native.Mathlib.Omega.{arith}
 use Prim.Native.Nat.{_+_, _-_}
 use mathlib.Core.List.{List, [], _∷_, _++_}
 use mathlib.Core.Path.{_≡_, refl, sym, ap, _∙_}
-use borrow.Author.Needs.{needs}
 use Rattle.definitions.proofs.operation.Statement.{statement}
 use Rattle.definitions.proofs.operation.Tie as tie
 
@@ -21,7 +20,7 @@ operation-type-requires : tie.Need-operation-type-requires
 operation-type-requires c κs = (c .before .before .before .before .before .pre) .text .node
 
 slice-aggregate-if-named : tie.Need-slice-aggregate-if-named
-slice-aggregate-if-named c = search needs
+slice-aggregate-if-named c = refl
 
 if-named-requires : tie.Need-if-named-requires
 if-named-requires c κs = (c .before .before .before .before .before .before .before .before .before .before .pre) .text

@@ -13,7 +13,6 @@ use native.Mathlib.Omega.{arith}
 use Prim.Native.Nat.{_+_, _-_}
 use mathlib.Core.List.{List, [], _∷_, _++_}
 use mathlib.Core.Path.{_≡_, refl, sym, ap, _∙_}
-use borrow.Author.Needs.{needs}
 use Rattle.definitions.proofs.schema.Statement.{statement}
 use Rattle.definitions.proofs.schema.Tie as tie
 
@@ -21,19 +20,19 @@ serialize-description-requires : tie.Need-serialize-description-requires
 serialize-description-requires c κs = (rest-ranged ((c .before .before .before .before .before .pre) .jobs .rest), (c .before .before .before .before .before .pre) .jobs .table)
 
 slice-aggregate-token : tie.Need-slice-aggregate-token
-slice-aggregate-token c = search needs
+slice-aggregate-token c = refl
 
 token-requires : tie.Need-token-requires
-token-requires c κs = search needs
+token-requires c κs = tt
 
 each-requires : tie.Need-each-requires
 each-requires c κs = here (jobs-kept (jobs-walked ((c .before .before .before .before .before .before .before .before .before .before .before .before .before .before .pre) .jobs) ((c .before .before .before .before .before .before .before .before .serialize-description) .ensures 0 .walked)) ((c .before .before .before .token) .ensures))
 
 slice-aggregate-token-2 : tie.Need-slice-aggregate-token-2
-slice-aggregate-token-2 c = search needs
+slice-aggregate-token-2 c = refl
 
 token-requires-2 : tie.Need-token-requires-2
-token-requires-2 c κs = search needs
+token-requires-2 c κs = tt
 
 curly-brackets-requires : tie.Need-curly-brackets-requires
 curly-brackets-requires c κs = jobs-kept (jobs-walked (jobs-kept (jobs-walked ((c .before .before .before .before .before .before .before .before .before .before .before .before .before .before .before .before .before .before .before .before .before .before .before .pre) .jobs) ((c .before .before .before .before .before .before .before .before .before .before .before .before .before .before .before .before .before .serialize-description) .ensures 0 .walked)) ((c .before .before .before .before .before .before .before .before .before .before .before .before .token) .ensures)) ((c .before .before .before .before .before .before .before .before .each) .ensures)) ((c .before .before .before .token2) .ensures)

@@ -13,15 +13,14 @@ use native.Mathlib.Omega.{arith}
 use Prim.Native.Nat.{_+_, _-_}
 use mathlib.Core.List.{List, [], _∷_, _++_}
 use mathlib.Core.Path.{_≡_, refl, sym, ap, _∙_}
-use borrow.Author.Needs.{needs}
 use Rattle.definitions.proofs.schema_extension.Statement.{statement}
 use Rattle.definitions.proofs.schema_extension.Tie as tie
 
 slice-aggregate-token : tie.Need-slice-aggregate-token
-slice-aggregate-token c = search needs
+slice-aggregate-token c = refl
 
 token-requires : tie.Need-token-requires
-token-requires c κs = search needs
+token-requires c κs = tt
 
 each-requires : tie.Need-each-requires
 each-requires c κs = here (jobs-kept ((c .before .before .before .before .before .before .before .before .before .before .pre) .jobs) ((c .before .before .before .token) .ensures))

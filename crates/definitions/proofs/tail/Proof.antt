@@ -13,7 +13,6 @@ use native.Mathlib.Omega.{arith}
 use Prim.Native.Nat.{_+_, _-_}
 use mathlib.Core.List.{List, [], _∷_, _++_}
 use mathlib.Core.Path.{_≡_, refl, sym, ap, _∙_}
-use borrow.Author.Needs.{needs}
 use Rattle.definitions.proofs.tail.Statement.{statement}
 use Rattle.definitions.proofs.tail.Tie as tie
 
@@ -21,10 +20,10 @@ each-requires : tie.Need-each-requires
 each-requires c κs = here ((c .before .before .before .before .before .pre))
 
 slice-aggregate-token : tie.Need-slice-aggregate-token
-slice-aggregate-token c = search needs
+slice-aggregate-token c = refl
 
 token-requires : tie.Need-token-requires
-token-requires c κs = search needs
+token-requires c κs = tt
 
 curly-brackets-requires : tie.Need-curly-brackets-requires
 curly-brackets-requires c κs = jobs-kept (jobs-walked ((c .before .before .before .before .before .before .before .before .before .before .before .before .before .before .pre)) ((c .before .before .before .before .before .before .before .before .each) .ensures)) ((c .before .before .before .token) .ensures)

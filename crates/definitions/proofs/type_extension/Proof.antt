@@ -15,15 +15,14 @@ use native.Mathlib.Omega.{arith}
 use Prim.Native.Nat.{_+_, _-_}
 use mathlib.Core.List.{List, [], _∷_, _++_}
 use mathlib.Core.Path.{_≡_, refl, sym, ap, _∙_}
-use borrow.Author.Needs.{needs}
 use Rattle.definitions.proofs.type_extension.Statement.{statement}
 use Rattle.definitions.proofs.type_extension.Tie as tie
 
 slice-aggregate-token : tie.Need-slice-aggregate-token
-slice-aggregate-token c = search needs
+slice-aggregate-token c = refl
 
 token-requires : tie.Need-token-requires
-token-requires c κs = search needs
+token-requires c κs = tt
 
 sub-type-like : tie.Need-sub-type-like
 sub-type-like c = omega (arith, (c .before .before .before .before .before .before .before .before .before .pre) .1)

@@ -13,15 +13,14 @@ use native.Mathlib.Omega.{arith}
 use Prim.Native.Nat.{_+_, _-_}
 use mathlib.Core.List.{List, [], _∷_, _++_}
 use mathlib.Core.Path.{_≡_, refl, sym, ap, _∙_}
-use borrow.Author.Needs.{needs}
 use Rattle.definitions.proofs.union.Statement.{statement}
 use Rattle.definitions.proofs.union.Tie as tie
 
 slice-aggregate-token : tie.Need-slice-aggregate-token
-slice-aggregate-token c = search needs
+slice-aggregate-token c = refl
 
 token-requires : tie.Need-token-requires
-token-requires c κs = search needs
+token-requires c κs = tt
 
 name-requires : tie.Need-name-requires
 name-requires c κs = (c .before .before .before .before .before .before .before .before .before .before .pre) .text
@@ -30,7 +29,7 @@ each-requires : tie.Need-each-requires
 each-requires c κs = here (jobs-kept (jobs-kept ((c .before .before .before .before .before .before .before .before .before .before .before .before .before .before .pre) .jobs) ((c .before .before .before .before .before .before .before .token) .ensures)) ((c .before .before .before .name) .ensures))
 
 slice-aggregate-listed-after : tie.Need-slice-aggregate-listed-after
-slice-aggregate-listed-after c = search needs
+slice-aggregate-listed-after c = refl
 
 listed-after-requires : tie.Need-listed-after-requires
 listed-after-requires c κs = jobs-walked (jobs-kept (jobs-kept ((c .before .before .before .before .before .before .before .before .before .before .before .before .before .before .before .before .before .before .before .pre) .jobs) ((c .before .before .before .before .before .before .before .before .before .before .before .before .token) .ensures)) ((c .before .before .before .before .before .before .before .before .name) .ensures)) ((c .before .before .before .before .each) .ensures)

@@ -7,7 +7,7 @@ use Rattle.document.proofs.end_line.Statement.{statement}
 use Rattle.document.proofs.end_line.Tie as tie
 
 write-byte-requires : tie.Need-write-byte-requires
-write-byte-requires c κs = search needs
+write-byte-requires c κs = tt
 
 same-length : tie.Need-same-length
 same-length c = search needs

@@ -5,7 +5,6 @@ use Rattle.layout.specs.Written.{under}
 use Rattle.pen.specs.Wrote.{Left, left-all, left-as, left-step, left-done}
 use Rattle.meaning.specs.Layout.{laterDefinitions}
 use Rattle.meaning.specs.Table.{forest}
-use borrow.Author.Needs.{needs}
 use native.Mathlib.Omega.{arith}
 use Prim.Native.Nat.{_-_}
 use mathlib.Core.Path.{_≡_, refl, sym, _∙_}
@@ -22,7 +21,7 @@ loop-holds : tie.Need-loop-holds Inv-loop μ-loop
 loop-holds c = ((c .before .before .before .before .pre), left-all (record { place = omega arith; size = omega arith }))
 
 apart-requires : tie.Need-apart-requires Inv-loop μ-loop
-apart-requires c κs = search needs
+apart-requires c κs = tt
 
 serialize-definition-requires : tie.Need-serialize-definition-requires Inv-loop μ-loop
 serialize-definition-requires c κs = (tops-job ((c .before .before .before .before .before .before .before .before .loop) .inv .0) ((c .before .before .before .before .before .if1) .taken), tops-kind ((c .before .before .before .before .before .before .before .before .loop) .inv .0) ((c .before .before .before .before .before .if1) .taken) .0, tops-kind ((c .before .before .before .before .before .before .before .before .loop) .inv .0) ((c .before .before .before .before .before .if1) .taken) .1)

@@ -23,7 +23,7 @@ later-definitions-requires : tie.Need-later-definitions-requires
 later-definitions-requires c κs = tops-on (first-tops (c .before .before .before .before .before .before .before .before .before .before .before .before .before .pre) ((c .before .before .before .before .before .before .before .before .end) .ensures .is)) ((c .before .before .before .before .before .before .if1) .left) ((c .before .end2) .ensures .is)
 
 end-line-requires : tie.Need-end-line-requires
-end-line-requires c κs = search needs
+end-line-requires c κs = tt
 
 same-length : tie.Need-same-length
 same-length c = search needs

@@ -11,13 +11,13 @@ enum-told : tie.Need-enum-told
 enum-told c = search needs
 
 is-selection-requires : tie.Need-is-selection-requires
-is-selection-requires c κs = search needs
+is-selection-requires c κs = tt
 
 enum-told-2 : tie.Need-enum-told-2
 enum-told-2 c = search needs
 
 is-value-requires : tie.Need-is-value-requires
-is-value-requires c κs = search needs
+is-value-requires c κs = tt
 
 returns : tie.Need-returns
 returns c = λ v. rw (c .before .class .given .1) (kind-tells _ v _)

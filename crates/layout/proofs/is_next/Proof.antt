@@ -15,7 +15,7 @@ kind-requires : tie.Need-kind-requires
 kind-requires c κs = search needs
 
 is-in-requires : tie.Need-is-in-requires
-is-in-requires c κs = search needs
+is-in-requires c κs = tt
 
 returns-2 : tie.Need-returns-2
 returns-2 c = kind-tells-next _ _ _ _ _ _ (omega arith) (c .before .kind .ensures .is) (c .is-in .ensures)

@@ -8,7 +8,7 @@ text-requires : tie.Need-text-requires
 text-requires c κs = search needs
 
 token-requires : tie.Need-token-requires
-token-requires c κs = search needs
+token-requires c κs = tt
 
 same-length : tie.Need-same-length
 same-length c = search needs

@@ -8,10 +8,10 @@ use Rattle.layout.proofs.new_line.Statement.{statement}
 use Rattle.layout.proofs.new_line.Tie as tie
 
 write-byte-requires : tie.Need-write-byte-requires
-write-byte-requires c κs = search needs
+write-byte-requires c κs = tt
 
 write-times-requires : tie.Need-write-times-requires
-write-times-requires c κs = search needs
+write-times-requires c κs = tt
 
 same-length : tie.Need-same-length
 same-length c = search needs

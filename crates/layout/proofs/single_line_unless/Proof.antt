@@ -1,5 +1,4 @@
 -- `layout::single_line_unless` meets its contract: the mark decides.
-use borrow.Author.Needs.{needs}
 use Rattle.layout.proofs.single_line_unless.Statement.{statement}
 use Rattle.layout.proofs.single_line_unless.Tie as tie
 use Rattle.layout.proofs.single_line_unless.Reads as reads
@@ -12,7 +11,7 @@ returns c = λ p. rw ((c .if1) .taken)
 
 -- src/lib.rt:146:5
 on-single-line-requires : tie.Need-on-single-line-requires
-on-single-line-requires c κs = search needs
+on-single-line-requires c κs = tt
 
 -- src/lib.rt:140:1
 returns-2 : tie.Need-returns-2

@@ -1,4 +1,5 @@
 -- `layout::trailing_comma` meets its contract: nothing with breaks off.
+use mathlib.Core.Path.{refl}
 use Rattle.layout.specs.Written.{kept-none, kept-as, comma-off, comma-on}
 use native.Mathlib.Omega.{arith}
 use borrow.Author.Needs.{needs}
@@ -6,10 +7,10 @@ use Rattle.layout.proofs.trailing_comma.Statement.{statement}
 use Rattle.layout.proofs.trailing_comma.Tie as tie
 
 slice-aggregate-token : tie.Need-slice-aggregate-token
-slice-aggregate-token c = search needs
+slice-aggregate-token c = refl
 
 token-requires : tie.Need-token-requires
-token-requires c κs = search needs
+token-requires c κs = tt
 
 same-length : tie.Need-same-length
 same-length c = search needs

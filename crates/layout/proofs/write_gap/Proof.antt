@@ -1,4 +1,5 @@
 -- `layout::write_gap` meets its contract: a gap of each kind.
+use mathlib.Core.Path.{refl}
 use borrow.Author.Needs.{needs}
 use Rattle.layout.proofs.write_gap.Statement.{statement}
 use Rattle.layout.proofs.write_gap.Tie as tie
@@ -7,40 +8,40 @@ enum-told : tie.Need-enum-told
 enum-told c = search needs
 
 slice-aggregate-token : tie.Need-slice-aggregate-token
-slice-aggregate-token c = search needs
+slice-aggregate-token c = refl
 
 token-requires : tie.Need-token-requires
-token-requires c κs = search needs
+token-requires c κs = tt
 
 enum-told-2 : tie.Need-enum-told-2
 enum-told-2 c = search needs
 
 slice-aggregate-token-2 : tie.Need-slice-aggregate-token-2
-slice-aggregate-token-2 c = search needs
+slice-aggregate-token-2 c = refl
 
 token-requires-2 : tie.Need-token-requires-2
-token-requires-2 c κs = search needs
+token-requires-2 c κs = tt
 
 enum-told-3 : tie.Need-enum-told-3
 enum-told-3 c = search needs
 
 slice-aggregate-token-3 : tie.Need-slice-aggregate-token-3
-slice-aggregate-token-3 c = search needs
+slice-aggregate-token-3 c = refl
 
 token-requires-3 : tie.Need-token-requires-3
-token-requires-3 c κs = search needs
+token-requires-3 c κs = tt
 
 enum-told-4 : tie.Need-enum-told-4
 enum-told-4 c = search needs
 
 new-line-or-space-requires : tie.Need-new-line-or-space-requires
-new-line-or-space-requires c κs = search needs
+new-line-or-space-requires c κs = tt
 
 enum-told-5 : tie.Need-enum-told-5
 enum-told-5 c = search needs
 
 comma-and-line-requires : tie.Need-comma-and-line-requires
-comma-and-line-requires c κs = search needs
+comma-and-line-requires c κs = tt
 
 same-length : tie.Need-same-length
 same-length c = search needs

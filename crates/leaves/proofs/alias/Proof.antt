@@ -24,10 +24,10 @@ past-requires : tie.Need-past-requires
 past-requires c κs = kept-in-table _ ((c .before .before .name) .ensures) (ranged-node (c .before .before .before .before .before .before .before .before .before .before .pre) (next-is-there _ _ _ _ (sym ((c .before .before .before .before .before .is-next) .ensures) ∙ (c .before .before .before .before .if1) .taken)))
 
 slice-aggregate-token : tie.Need-slice-aggregate-token
-slice-aggregate-token c = search needs
+slice-aggregate-token c = refl
 
 token-requires : tie.Need-token-requires
-token-requires c κs = search needs
+token-requires c κs = tt
 
 same-length : tie.Need-same-length
 same-length c = search needs

@@ -17,7 +17,7 @@ returns : tie.Need-returns
 returns c = λ s e ps z b. no-text (ps ++ text ∷ []) (plain-and-name-close ps z) (no-text-there _ _ _ ((c .before .length) .ensures .is) ((c .if1) .taken)) (kept-none (record { place = omega arith; size = omega arith }))
 
 token-requires : tie.Need-token-requires
-token-requires c κs = search needs
+token-requires c κs = tt
 
 name-requires : tie.Need-name-requires
 name-requires c κs = search needs

@@ -12,7 +12,7 @@ variant-requires : tie.Need-variant-requires
 variant-requires c κs = search needs
 
 token-requires : tie.Need-token-requires
-token-requires c κs = search needs
+token-requires c κs = tt
 
 same-length : tie.Need-same-length
 same-length c = search needs

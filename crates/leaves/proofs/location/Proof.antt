@@ -1,5 +1,6 @@
 use Rattle.leaves.specs.Leaves.{past-all}
 -- `leaves::location` meets its contract: a word for each variant.
+use mathlib.Core.Path.{refl}
 use Rattle.layout.specs.Did.{did-chosen, did-none-chosen}
 use Rattle.layout.specs.Written.{kept-none}
 use native.Mathlib.Omega.{arith}
@@ -11,118 +12,118 @@ variant-requires : tie.Need-variant-requires
 variant-requires c κs = search needs
 
 slice-aggregate-token : tie.Need-slice-aggregate-token
-slice-aggregate-token c = search needs
+slice-aggregate-token c = refl
 
 token-requires : tie.Need-token-requires
-token-requires c κs = search needs
+token-requires c κs = tt
 
 slice-aggregate-token-2 : tie.Need-slice-aggregate-token-2
-slice-aggregate-token-2 c = search needs
+slice-aggregate-token-2 c = refl
 
 token-requires-2 : tie.Need-token-requires-2
-token-requires-2 c κs = search needs
+token-requires-2 c κs = tt
 
 slice-aggregate-token-3 : tie.Need-slice-aggregate-token-3
-slice-aggregate-token-3 c = search needs
+slice-aggregate-token-3 c = refl
 
 token-requires-3 : tie.Need-token-requires-3
-token-requires-3 c κs = search needs
+token-requires-3 c κs = tt
 
 slice-aggregate-token-4 : tie.Need-slice-aggregate-token-4
-slice-aggregate-token-4 c = search needs
+slice-aggregate-token-4 c = refl
 
 token-requires-4 : tie.Need-token-requires-4
-token-requires-4 c κs = search needs
+token-requires-4 c κs = tt
 
 slice-aggregate-token-5 : tie.Need-slice-aggregate-token-5
-slice-aggregate-token-5 c = search needs
+slice-aggregate-token-5 c = refl
 
 token-requires-5 : tie.Need-token-requires-5
-token-requires-5 c κs = search needs
+token-requires-5 c κs = tt
 
 slice-aggregate-token-6 : tie.Need-slice-aggregate-token-6
-slice-aggregate-token-6 c = search needs
+slice-aggregate-token-6 c = refl
 
 token-requires-6 : tie.Need-token-requires-6
-token-requires-6 c κs = search needs
+token-requires-6 c κs = tt
 
 slice-aggregate-token-7 : tie.Need-slice-aggregate-token-7
-slice-aggregate-token-7 c = search needs
+slice-aggregate-token-7 c = refl
 
 token-requires-7 : tie.Need-token-requires-7
-token-requires-7 c κs = search needs
+token-requires-7 c κs = tt
 
 slice-aggregate-token-8 : tie.Need-slice-aggregate-token-8
-slice-aggregate-token-8 c = search needs
+slice-aggregate-token-8 c = refl
 
 token-requires-8 : tie.Need-token-requires-8
-token-requires-8 c κs = search needs
+token-requires-8 c κs = tt
 
 slice-aggregate-token-9 : tie.Need-slice-aggregate-token-9
-slice-aggregate-token-9 c = search needs
+slice-aggregate-token-9 c = refl
 
 token-requires-9 : tie.Need-token-requires-9
-token-requires-9 c κs = search needs
+token-requires-9 c κs = tt
 
 slice-aggregate-token-10 : tie.Need-slice-aggregate-token-10
-slice-aggregate-token-10 c = search needs
+slice-aggregate-token-10 c = refl
 
 token-requires-10 : tie.Need-token-requires-10
-token-requires-10 c κs = search needs
+token-requires-10 c κs = tt
 
 slice-aggregate-token-11 : tie.Need-slice-aggregate-token-11
-slice-aggregate-token-11 c = search needs
+slice-aggregate-token-11 c = refl
 
 token-requires-11 : tie.Need-token-requires-11
-token-requires-11 c κs = search needs
+token-requires-11 c κs = tt
 
 slice-aggregate-token-12 : tie.Need-slice-aggregate-token-12
-slice-aggregate-token-12 c = search needs
+slice-aggregate-token-12 c = refl
 
 token-requires-12 : tie.Need-token-requires-12
-token-requires-12 c κs = search needs
+token-requires-12 c κs = tt
 
 slice-aggregate-token-13 : tie.Need-slice-aggregate-token-13
-slice-aggregate-token-13 c = search needs
+slice-aggregate-token-13 c = refl
 
 token-requires-13 : tie.Need-token-requires-13
-token-requires-13 c κs = search needs
+token-requires-13 c κs = tt
 
 slice-aggregate-token-14 : tie.Need-slice-aggregate-token-14
-slice-aggregate-token-14 c = search needs
+slice-aggregate-token-14 c = refl
 
 token-requires-14 : tie.Need-token-requires-14
-token-requires-14 c κs = search needs
+token-requires-14 c κs = tt
 
 slice-aggregate-token-15 : tie.Need-slice-aggregate-token-15
-slice-aggregate-token-15 c = search needs
+slice-aggregate-token-15 c = refl
 
 token-requires-15 : tie.Need-token-requires-15
-token-requires-15 c κs = search needs
+token-requires-15 c κs = tt
 
 slice-aggregate-token-16 : tie.Need-slice-aggregate-token-16
-slice-aggregate-token-16 c = search needs
+slice-aggregate-token-16 c = refl
 
 token-requires-16 : tie.Need-token-requires-16
-token-requires-16 c κs = search needs
+token-requires-16 c κs = tt
 
 slice-aggregate-token-17 : tie.Need-slice-aggregate-token-17
-slice-aggregate-token-17 c = search needs
+slice-aggregate-token-17 c = refl
 
 token-requires-17 : tie.Need-token-requires-17
-token-requires-17 c κs = search needs
+token-requires-17 c κs = tt
 
 slice-aggregate-token-18 : tie.Need-slice-aggregate-token-18
-slice-aggregate-token-18 c = search needs
+slice-aggregate-token-18 c = refl
 
 token-requires-18 : tie.Need-token-requires-18
-token-requires-18 c κs = search needs
+token-requires-18 c κs = tt
 
 slice-aggregate-token-19 : tie.Need-slice-aggregate-token-19
-slice-aggregate-token-19 c = search needs
+slice-aggregate-token-19 c = refl
 
 token-requires-19 : tie.Need-token-requires-19
-token-requires-19 c κs = search needs
+token-requires-19 c κs = tt
 
 same-length : tie.Need-same-length
 same-length c = search needs

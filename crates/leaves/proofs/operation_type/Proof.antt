@@ -1,5 +1,6 @@
 use Rattle.leaves.specs.Leaves.{past-all}
 -- `leaves::operation_type` meets its contract: a word for each variant.
+use mathlib.Core.Path.{refl}
 use Rattle.layout.specs.Did.{did-chosen, did-none-chosen}
 use Rattle.layout.specs.Written.{kept-none}
 use native.Mathlib.Omega.{arith}
@@ -11,22 +12,22 @@ variant-requires : tie.Need-variant-requires
 variant-requires c κs = search needs
 
 slice-aggregate-token : tie.Need-slice-aggregate-token
-slice-aggregate-token c = search needs
+slice-aggregate-token c = refl
 
 token-requires : tie.Need-token-requires
-token-requires c κs = search needs
+token-requires c κs = tt
 
 slice-aggregate-token-2 : tie.Need-slice-aggregate-token-2
-slice-aggregate-token-2 c = search needs
+slice-aggregate-token-2 c = refl
 
 token-requires-2 : tie.Need-token-requires-2
-token-requires-2 c κs = search needs
+token-requires-2 c κs = tt
 
 slice-aggregate-token-3 : tie.Need-slice-aggregate-token-3
-slice-aggregate-token-3 c = search needs
+slice-aggregate-token-3 c = refl
 
 token-requires-3 : tie.Need-token-requires-3
-token-requires-3 c κs = search needs
+token-requires-3 c κs = tt
 
 same-length : tie.Need-same-length
 same-length c = search needs

@@ -18,11 +18,11 @@ operation-type-requires c κs = search needs
 
 -- src/lib.rt:185:35
 slice-aggregate-token : tie.Need-slice-aggregate-token
-slice-aggregate-token c = search needs
+slice-aggregate-token c = refl
 
 -- src/lib.rt:185:9
 token-requires : tie.Need-token-requires
-token-requires c κs = search needs
+token-requires c κs = tt
 
 -- src/lib.rt:186:5
 name-requires : tie.Need-name-requires

@@ -24,7 +24,7 @@ past-requires : tie.Need-past-requires
 past-requires c κs = kept-in-table _ ((c .before .before .string-value) .ensures) (ranged-node ((c .before .before .before .before .before .before .before .before .before .before .before .pre) .0) (next-is-there _ _ _ _ (sym ((c .before .before .before .before .before .is-next) .ensures) ∙ (c .before .before .before .before .if1) .taken)))
 
 new-line-or-space-requires : tie.Need-new-line-or-space-requires
-new-line-or-space-requires c κs = search needs
+new-line-or-space-requires c κs = tt
 
 same-length : tie.Need-same-length
 same-length c = search needs

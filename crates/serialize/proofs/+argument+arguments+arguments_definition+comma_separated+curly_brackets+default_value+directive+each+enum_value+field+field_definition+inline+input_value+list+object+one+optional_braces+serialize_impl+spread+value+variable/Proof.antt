@@ -15,7 +15,6 @@ use Rattle.meaning.specs.Rules.{singleLine, singleLineUnlessMarked, commaSepara
 use Rattle.meaning.specs.Children.{a as ofKind, type, value}
 use Rattle.meaning.specs.Settings.{defaultSettings}
 use Rattle.meaning.specs.Ascii.{ascii}
-use borrow.Author.Needs.{needs}
 use lib.ListN.{length}
 use native.Mathlib.Omega.{arith}
 use Prim.Native.Nat.{_+_, _-_, _*_}
@@ -448,10 +447,10 @@ argument-name-requires : (t : ℕ) → argument-lts.Need-name-requires (claims-a
 argument-name-requires t c κs = (c .before .before .before .before .before .pre) .1 .text
 
 argument-slice-aggregate-token : (t : ℕ) → argument-lts.Need-slice-aggregate-token (claims-argument t) (argument-at t) argument.Post
-argument-slice-aggregate-token t c = search needs
+argument-slice-aggregate-token t c = refl
 
 argument-token-requires : (t : ℕ) → argument-lts.Need-token-requires (claims-argument t) (argument-at t) argument.Post
-argument-token-requires t c κs = search needs
+argument-token-requires t c κs = tt
 
 argument-one-requires : (t : ℕ) → argument-lts.Need-one-requires (claims-argument t) (argument-at t) argument.Post
 argument-one-requires t c κs = (omega (arith, (c .before .before .before .before .before .before .before .before .before .before .before .before .before .before .pre) .0), here (jobs-kept (jobs-kept ((c .before .before .before .before .before .before .before .before .before .before .before .before .before .before .pre) .1 .jobs) ((c .before .before .before .before .before .before .before .before .name) .ensures)) ((c .before .before .before .token) .ensures)))
@@ -475,7 +474,7 @@ arguments-slice-aggregate-comma-separated :
       comma-separated-below t,
       comma-separated.Post,
     ) (arguments-at t) arguments.Post
-arguments-slice-aggregate-comma-separated t c = search needs
+arguments-slice-aggregate-comma-separated t c = refl
 
 arguments-slice-aggregate-comma-separated-2 :
     (t : ℕ) → arguments-lts.Need-slice-aggregate-comma-separated-2 (
@@ -486,10 +485,10 @@ arguments-slice-aggregate-comma-separated-2 :
       comma-separated-below t,
       comma-separated.Post,
     ) (arguments-at t) arguments.Post
-arguments-slice-aggregate-comma-separated-2 t c = search needs
+arguments-slice-aggregate-comma-separated-2 t c = refl
 
 arguments-on-single-line-requires : (t : ℕ) → arguments-lts.Need-on-single-line-requires (claims-arguments t) (arguments-at t) arguments.Post
-arguments-on-single-line-requires t c κs = search needs
+arguments-on-single-line-requires t c κs = tt
 
 arguments-comma-separated-requires : (t : ℕ) → arguments-lts.Need-comma-separated-requires (claims-arguments t) (arguments-at t) arguments.Post
 arguments-comma-separated-requires t c κs = (omega (arith, (c .before .before .before .before .before .before .before .before .before .before .pre) .0), jobs-single ((c .before .before .before .before .before .before .before .before .before .before .args) .state) ((c .before .before .before .before .before .before .before .before .before .before .pre) .1) ((c .before .on-single-line) .ensures))
@@ -530,7 +529,7 @@ arguments-definition-single-line-unless-requires :
       comma-separated-below t,
       comma-separated.Post,
     ) (arguments-definition-at t) arguments-definition.Post
-arguments-definition-single-line-unless-requires t c κs = search needs
+arguments-definition-single-line-unless-requires t c κs = tt
 
 arguments-definition-slice-aggregate-comma-separated :
     (t : ℕ) → arguments-definition-lts.Need-slice-aggregate-comma-separated (
@@ -543,7 +542,7 @@ arguments-definition-slice-aggregate-comma-separated :
       comma-separated-below t,
       comma-separated.Post,
     ) (arguments-definition-at t) arguments-definition.Post
-arguments-definition-slice-aggregate-comma-separated t c = search needs
+arguments-definition-slice-aggregate-comma-separated t c = refl
 
 arguments-definition-slice-aggregate-comma-separated-2 :
     (t : ℕ) → arguments-definition-lts.Need-slice-aggregate-comma-separated-2 (
@@ -556,7 +555,7 @@ arguments-definition-slice-aggregate-comma-separated-2 :
       comma-separated-below t,
       comma-separated.Post,
     ) (arguments-definition-at t) arguments-definition.Post
-arguments-definition-slice-aggregate-comma-separated-2 t c = search needs
+arguments-definition-slice-aggregate-comma-separated-2 t c = refl
 
 arguments-definition-comma-separated-requires :
     (t : ℕ) → arguments-definition-lts.Need-comma-separated-requires (
@@ -581,7 +580,7 @@ arguments-definition-returns-2 : (t : ℕ) → arguments-definition-lts.Need-ret
 arguments-definition-returns-2 t c = λ n. no-child (commaSeparated singleLineUnlessMarked (ascii "(") (ascii ")") (ofKind 22) ∷ []) (rest-ranged ((c .before .before .before .before .before .before .before .pre) .1 .rest)) (ofKind 22) refl (sym ((c .before .is-next) .ensures) ∙ (c .if1) .left) (kept-none (record { place = omega arith; size = omega arith }))
 
 comma-separated-token-requires : (t : ℕ) → comma-separated-lts.Need-token-requires (claims-comma-separated t) (comma-separated-at t) comma-separated.Post
-comma-separated-token-requires t c κs = search needs
+comma-separated-token-requires t c κs = tt
 
 comma-separated-is-next-requires : (t : ℕ) → comma-separated-lts.Need-is-next-requires (claims-comma-separated t) (comma-separated-at t) comma-separated.Post
 comma-separated-is-next-requires t c κs = rest-within ((c .before .before .before .before .before .before .before .before .before .before .pre) .1 .rest)
@@ -590,7 +589,7 @@ comma-separated-deeper-requires : (t : ℕ) → comma-separated-lts.Need-deeper-
 comma-separated-deeper-requires t c κs = omega (arith, (c .before .before .before .before .before .before .before .before .before .before .before .before .pre) .1 .level)
 
 comma-separated-new-line-requires : (t : ℕ) → comma-separated-lts.Need-new-line-requires (claims-comma-separated t) (comma-separated-at t) comma-separated.Post
-comma-separated-new-line-requires t c κs = search needs
+comma-separated-new-line-requires t c κs = tt
 
 comma-separated-one-requires : (t : ℕ) → comma-separated-lts.Need-one-requires (claims-comma-separated t) (comma-separated-at t) comma-separated.Post
 comma-separated-one-requires t c κs = (omega (arith, (c .before .before .before .before .before .before .before .before .before .before .before .before .before .before .before .before .before .before .pre) .0), jobs-deeper _ (jobs-kept (jobs-kept ((c .before .before .before .before .before .before .before .before .before .before .before .before .before .before .before .before .before .before .pre) .1) ((c .before .before .before .before .before .before .before .before .before .before .token) .ensures)) ((c .before .before .before .new-line) .ensures)) ((c .before .before .before .before .before .deeper) .ensures))
@@ -615,13 +614,13 @@ comma-separated-trailing-comma-requires :
       trailing-comma-reads.Asked,
       trailing-comma-reads.Learnt,
     ) (comma-separated-at t) comma-separated.Post
-comma-separated-trailing-comma-requires t c κs = search needs
+comma-separated-trailing-comma-requires t c κs = tt
 
 comma-separated-new-line-requires-2 : (t : ℕ) → comma-separated-lts.Need-new-line-requires-2 (claims-comma-separated t) (comma-separated-at t) comma-separated.Post
-comma-separated-new-line-requires-2 t c κs = search needs
+comma-separated-new-line-requires-2 t c κs = tt
 
 comma-separated-token-requires-2 : (t : ℕ) → comma-separated-lts.Need-token-requires-2 (claims-comma-separated t) (comma-separated-at t) comma-separated.Post
-comma-separated-token-requires-2 t c κs = search needs
+comma-separated-token-requires-2 t c κs = tt
 
 comma-separated-returns : (t : ℕ) → comma-separated-lts.Need-returns (claims-comma-separated t) (comma-separated-at t) comma-separated.Post
 comma-separated-returns t c = commas-some _ _ _ ((c .before .before .before .before .before .before .before .before .before .before .before .before .before .before .before .before .before .before .before .before .before .before .before .before .deeper) .ensures _) ((c .before .before .before .before .before .before .before .before .before .before .before .before .before .before .before .before .before .before .before .before .before .before .before .before .before .before .before .before .before .before .before .before .before .before .before .before .before .pre) .1 .rest) (sym ((c .before .before .before .before .before .before .before .before .before .before .before .before .before .before .before .before .before .before .before .before .before .before .before .before .before .before .is-next) .ensures) ∙ (c .before .before .before .before .before .before .before .before .before .before .before .before .before .before .before .before .before .before .before .before .before .before .before .before .before .if1) .taken) ((c .before .before .before .before .before .before .before .before .before .before .before .before .before .before .before .before .before .before .before .before .before .before .before .before .before .before .before .before .before .token) .ensures) ((c .before .before .before .before .before .before .before .before .before .before .before .before .before .before .before .before .before .before .before .before .before .before .new-line) .ensures) ((c .before .before .before .before .before .before .before .before .before .before .before .before .before .before .before .before .before .before .one) .ensures) ((c .before .before .before .before .before .before .before .before .before .before .before .before .before .before .each) .ensures) ((c .before .before .before .before .before .before .before .before .before .before .trailing-comma) .ensures) ((c .before .before .before .before .before .before .new-line2) .ensures) ((c .before .before .token2) .ensures)
@@ -630,7 +629,7 @@ comma-separated-same-length : (t : ℕ) → comma-separated-lts.Need-same-length
 comma-separated-same-length t c = wrote-length (comma-separated-returns t c .wrote)
 
 comma-separated-token-requires-3 : (t : ℕ) → comma-separated-lts.Need-token-requires-3 (claims-comma-separated t) (comma-separated-at t) comma-separated.Post
-comma-separated-token-requires-3 t c κs = search needs
+comma-separated-token-requires-3 t c κs = tt
 
 comma-separated-returns-2 : (t : ℕ) → comma-separated-lts.Need-returns-2 (claims-comma-separated t) (comma-separated-at t) comma-separated.Post
 comma-separated-returns-2 t c = commas-none _ _ ((c .before .before .before .before .before .before .before .before .before .before .before .before .before .before .before .before .pre) .1 .rest) (sym ((c .before .before .before .before .before .is-next) .ensures) ∙ (c .before .before .before .before .if1) .left) ((c .before .before .before .before .before .before .before .before .token) .ensures) ((c .before .before .token3) .ensures)
@@ -639,10 +638,10 @@ comma-separated-same-length-2 : (t : ℕ) → comma-separated-lts.Need-same-leng
 comma-separated-same-length-2 t c = wrote-length (comma-separated-returns-2 t c .wrote)
 
 curly-brackets-slice-aggregate-token : (t : ℕ) → curly-brackets-lts.Need-slice-aggregate-token (claims-curly-brackets t) (curly-brackets-at t) curly-brackets.Post
-curly-brackets-slice-aggregate-token t c = search needs
+curly-brackets-slice-aggregate-token t c = refl
 
 curly-brackets-token-requires : (t : ℕ) → curly-brackets-lts.Need-token-requires (claims-curly-brackets t) (curly-brackets-at t) curly-brackets.Post
-curly-brackets-token-requires t c κs = search needs
+curly-brackets-token-requires t c κs = tt
 
 curly-brackets-is-next-requires : (t : ℕ) → curly-brackets-lts.Need-is-next-requires (claims-curly-brackets t) (curly-brackets-at t) curly-brackets.Post
 curly-brackets-is-next-requires t c κs = rest-within ((c .before .before .before .before .before .before .before .before .before .pre) .1 .rest)
@@ -666,13 +665,13 @@ curly-brackets-new-line-or-space-requires :
       new-line-or-space-reads.Asked,
       new-line-or-space-reads.Learnt,
     ) (curly-brackets-at t) curly-brackets.Post
-curly-brackets-new-line-or-space-requires t c κs = search needs
+curly-brackets-new-line-or-space-requires t c κs = tt
 
 curly-brackets-slice-aggregate-token-2 : (t : ℕ) → curly-brackets-lts.Need-slice-aggregate-token-2 (claims-curly-brackets t) (curly-brackets-at t) curly-brackets.Post
-curly-brackets-slice-aggregate-token-2 t c = search needs
+curly-brackets-slice-aggregate-token-2 t c = refl
 
 curly-brackets-token-requires-2 : (t : ℕ) → curly-brackets-lts.Need-token-requires-2 (claims-curly-brackets t) (curly-brackets-at t) curly-brackets.Post
-curly-brackets-token-requires-2 t c κs = search needs
+curly-brackets-token-requires-2 t c κs = tt
 
 curly-brackets-returns : (t : ℕ) → curly-brackets-lts.Need-returns (claims-curly-brackets t) (curly-brackets-at t) curly-brackets.Post
 curly-brackets-returns t c = braces-some _ _ _ ((c .before .before .before .before .before .before .before .before .before .before .before .before .before .deeper) .ensures _) ((c .before .before .before .before .before .before .before .before .before .before .before .before .before .before .before .before .before .before .before .before .before .before .before .before .before .pre) .1 .rest) (sym ((c .before .before .before .before .before .before .before .before .before .before .before .before .before .before .before .is-next) .ensures) ∙ (c .before .before .before .before .before .before .before .before .before .before .before .before .before .before .if1) .taken) ((c .before .before .before .before .before .before .before .before .before .before .before .before .before .before .before .before .before .before .token) .ensures) ((c .before .before .before .before .before .before .before .before .before .before .before .each) .ensures) ((c .before .before .before .before .before .before .before .new-line-or-space) .ensures) ((c .before .before .token2) .ensures)
@@ -681,10 +680,10 @@ curly-brackets-same-length : (t : ℕ) → curly-brackets-lts.Need-same-length (
 curly-brackets-same-length t c = wrote-length (curly-brackets-returns t c .wrote)
 
 curly-brackets-slice-aggregate-token-3 : (t : ℕ) → curly-brackets-lts.Need-slice-aggregate-token-3 (claims-curly-brackets t) (curly-brackets-at t) curly-brackets.Post
-curly-brackets-slice-aggregate-token-3 t c = search needs
+curly-brackets-slice-aggregate-token-3 t c = refl
 
 curly-brackets-token-requires-3 : (t : ℕ) → curly-brackets-lts.Need-token-requires-3 (claims-curly-brackets t) (curly-brackets-at t) curly-brackets.Post
-curly-brackets-token-requires-3 t c κs = search needs
+curly-brackets-token-requires-3 t c κs = tt
 
 curly-brackets-returns-2 : (t : ℕ) → curly-brackets-lts.Need-returns-2 (claims-curly-brackets t) (curly-brackets-at t) curly-brackets.Post
 curly-brackets-returns-2 t c = braces-none _ _ ((c .before .before .before .before .before .before .before .before .before .before .before .before .before .before .before .before .pre) .1 .rest) (sym ((c .before .before .before .before .before .before .is-next) .ensures) ∙ (c .before .before .before .before .before .if1) .left) ((c .before .before .before .before .before .before .before .before .before .token) .ensures) ((c .before .before .token3) .ensures)
@@ -696,10 +695,10 @@ default-value-is-next-requires : (t : ℕ) → default-value-lts.Need-is-next-re
 default-value-is-next-requires t c κs = rest-within ((c .before .before .before .before .pre) .1 .rest)
 
 default-value-slice-aggregate-token : (t : ℕ) → default-value-lts.Need-slice-aggregate-token (claims-default-value t) (default-value-at t) default-value.Post
-default-value-slice-aggregate-token t c = search needs
+default-value-slice-aggregate-token t c = refl
 
 default-value-token-requires : (t : ℕ) → default-value-lts.Need-token-requires (claims-default-value t) (default-value-at t) default-value.Post
-default-value-token-requires t c κs = search needs
+default-value-token-requires t c κs = tt
 
 default-value-one-requires : (t : ℕ) → default-value-lts.Need-one-requires (claims-default-value t) (default-value-at t) default-value.Post
 default-value-one-requires t c κs = (omega (arith, (c .before .before .before .before .before .before .before .before .before .before .before .before .pre) .0), jobs-kept ((c .before .before .before .before .before .before .before .before .before .before .before .before .pre) .1) ((c .before .before .before .token) .ensures))
@@ -714,10 +713,10 @@ default-value-returns-2 : (t : ℕ) → default-value-lts.Need-returns-2 (claims
 default-value-returns-2 t c = λ n. no-child (sp ++ token "=" ++ sp ++ child value) (rest-ranged ((c .before .before .before .before .before .before .pre) .1 .rest)) value refl (sym ((c .before .is-next) .ensures) ∙ (c .if1) .left) (kept-none (record { place = omega arith; size = omega arith }))
 
 directive-slice-aggregate-token : (t : ℕ) → directive-lts.Need-slice-aggregate-token (claims-directive t) (directive-at t) directive.Post
-directive-slice-aggregate-token t c = search needs
+directive-slice-aggregate-token t c = refl
 
 directive-token-requires : (t : ℕ) → directive-lts.Need-token-requires (claims-directive t) (directive-at t) directive.Post
-directive-token-requires t c κs = search needs
+directive-token-requires t c κs = tt
 
 directive-name-requires : (t : ℕ) → directive-lts.Need-name-requires (claims-directive t) (directive-at t) directive.Post
 directive-name-requires t c κs = (c .before .before .before .before .before .before .before .before .before .before .pre) .1 .text
@@ -745,7 +744,7 @@ each-is-next-requires : (t : ℕ) → each-lts.Need-is-next-requires (claims-eac
 each-is-next-requires t c κs = rest-within ((c .loop) .inv .jobs .rest)
 
 each-write-gap-requires : (t : ℕ) → each-lts.Need-write-gap-requires (claims-each t) (each-at t) each.Post each-Inv-loop each-μ-loop
-each-write-gap-requires t c κs = search needs
+each-write-gap-requires t c κs = tt
 
 each-one-requires : (t : ℕ) → each-lts.Need-one-requires (claims-each t) (each-at t) each.Post each-Inv-loop each-μ-loop
 each-one-requires t c κs = (omega (arith, (c .before .before .before .before .before .before .before .before .before .before .before .before .pre) .0), jobs-kept ((c .before .before .before .before .before .before .before .loop) .inv .jobs) ((c .before .before .before .write-gap) .ensures))
@@ -846,10 +845,10 @@ field-definition-arguments-definition-requires :
 field-definition-arguments-definition-requires t c κs = (omega (arith, (c .before .before .before .before .before .before .before .before .before .before .before .before .before .pre) .0), jobs-kept (jobs-walked ((c .before .before .before .before .before .before .before .before .before .before .before .before .before .pre) .1 .jobs) ((c .before .before .before .before .before .before .before .serialize-description) .ensures 0 .walked)) ((c .before .before .before .name) .ensures))
 
 field-definition-slice-aggregate-token : (t : ℕ) → field-definition-lts.Need-slice-aggregate-token (claims-field-definition t) (field-definition-at t) field-definition.Post
-field-definition-slice-aggregate-token t c = search needs
+field-definition-slice-aggregate-token t c = refl
 
 field-definition-token-requires : (t : ℕ) → field-definition-lts.Need-token-requires (claims-field-definition t) (field-definition-at t) field-definition.Post
-field-definition-token-requires t c κs = search needs
+field-definition-token-requires t c κs = tt
 
 field-definition-one-requires : (t : ℕ) → field-definition-lts.Need-one-requires (claims-field-definition t) (field-definition-at t) field-definition.Post
 field-definition-one-requires t c κs = (omega (arith, (c .before .before .before .before .before .before .before .before .before .before .before .before .before .before .before .before .before .before .before .before .before .before .pre) .0), here (jobs-kept (jobs-walked (jobs-kept (jobs-walked ((c .before .before .before .before .before .before .before .before .before .before .before .before .before .before .before .before .before .before .before .before .before .before .pre) .1 .jobs) ((c .before .before .before .before .before .before .before .before .before .before .before .before .before .before .before .before .serialize-description) .ensures 0 .walked)) ((c .before .before .before .before .before .before .before .before .before .before .before .before .name) .ensures)) ((c .before .before .before .before .before .before .before .before .arguments-definition) .ensures 0 .walked)) ((c .before .before .before .token) .ensures)))
@@ -865,13 +864,13 @@ field-definition-same-length : (t : ℕ) → field-definition-lts.Need-same-leng
 field-definition-same-length t c = wrote-length (field-definition-returns t c .walked .wrote)
 
 inline-slice-aggregate-token : (t : ℕ) → inline-lts.Need-slice-aggregate-token (claims-inline t) (inline-at t) inline.Post
-inline-slice-aggregate-token t c = search needs
+inline-slice-aggregate-token t c = refl
 
 inline-token-requires : (t : ℕ) → inline-lts.Need-token-requires (claims-inline t) (inline-at t) inline.Post
-inline-token-requires t c κs = search needs
+inline-token-requires t c κs = tt
 
 inline-slice-aggregate-if-named : (t : ℕ) → inline-lts.Need-slice-aggregate-if-named (claims-inline t) (inline-at t) inline.Post
-inline-slice-aggregate-if-named t c = search needs
+inline-slice-aggregate-if-named t c = refl
 
 inline-if-named-requires : (t : ℕ) → inline-lts.Need-if-named-requires (claims-inline t) (inline-at t) inline.Post
 inline-if-named-requires t c κs = (c .before .before .before .before .before .before .before .before .before .before .before .pre) .1 .text
@@ -880,10 +879,10 @@ inline-each-requires : (t : ℕ) → inline-lts.Need-each-requires (claims-inlin
 inline-each-requires t c κs = (omega (arith, (c .before .before .before .before .before .before .before .before .before .before .before .before .before .before .before .pre) .0), here (jobs-walked (jobs-kept ((c .before .before .before .before .before .before .before .before .before .before .before .before .before .before .before .pre) .1 .jobs) ((c .before .before .before .before .before .before .before .before .token) .ensures)) ((c .before .before .before .if-named) .ensures defaultSettings _ (sp ++ token "on" ++ sp) refl refl .walked)))
 
 inline-slice-aggregate-token-2 : (t : ℕ) → inline-lts.Need-slice-aggregate-token-2 (claims-inline t) (inline-at t) inline.Post
-inline-slice-aggregate-token-2 t c = search needs
+inline-slice-aggregate-token-2 t c = refl
 
 inline-token-requires-2 : (t : ℕ) → inline-lts.Need-token-requires-2 (claims-inline t) (inline-at t) inline.Post
-inline-token-requires-2 t c κs = search needs
+inline-token-requires-2 t c κs = tt
 
 inline-curly-brackets-requires : (t : ℕ) → inline-lts.Need-curly-brackets-requires (claims-inline t) (inline-at t) inline.Post
 inline-curly-brackets-requires t c κs = (omega (arith, (c .before .before .before .before .before .before .before .before .before .before .before .before .before .before .before .before .before .before .before .before .before .before .before .before .pre) .0), jobs-kept (jobs-walked (jobs-walked (jobs-kept ((c .before .before .before .before .before .before .before .before .before .before .before .before .before .before .before .before .before .before .before .before .before .before .before .before .pre) .1 .jobs) ((c .before .before .before .before .before .before .before .before .before .before .before .before .before .before .before .before .before .token) .ensures)) ((c .before .before .before .before .before .before .before .before .before .before .before .before .if-named) .ensures defaultSettings _ (sp ++ token "on" ++ sp) refl refl .walked)) ((c .before .before .before .before .before .before .before .before .each) .ensures)) ((c .before .before .before .token2) .ensures))
@@ -916,10 +915,10 @@ input-value-name-requires : (t : ℕ) → input-value-lts.Need-name-requires (cl
 input-value-name-requires t c κs = (c .before .before .before .before .before .before .before .before .before .pre) .1 .text
 
 input-value-slice-aggregate-token : (t : ℕ) → input-value-lts.Need-slice-aggregate-token (claims-input-value t) (input-value-at t) input-value.Post
-input-value-slice-aggregate-token t c = search needs
+input-value-slice-aggregate-token t c = refl
 
 input-value-token-requires : (t : ℕ) → input-value-lts.Need-token-requires (claims-input-value t) (input-value-at t) input-value.Post
-input-value-token-requires t c κs = search needs
+input-value-token-requires t c κs = tt
 
 input-value-one-requires : (t : ℕ) → input-value-lts.Need-one-requires (claims-input-value t) (input-value-at t) input-value.Post
 input-value-one-requires t c κs = (omega (arith, (c .before .before .before .before .before .before .before .before .before .before .before .before .before .before .before .before .before .before .pre) .0), here (jobs-kept (jobs-kept (jobs-walked ((c .before .before .before .before .before .before .before .before .before .before .before .before .before .before .before .before .before .before .pre) .1 .jobs) ((c .before .before .before .before .before .before .before .before .before .before .before .before .serialize-description) .ensures 0 .walked)) ((c .before .before .before .before .before .before .before .before .name) .ensures)) ((c .before .before .before .token) .ensures)))
@@ -938,10 +937,10 @@ input-value-same-length : (t : ℕ) → input-value-lts.Need-same-length (claims
 input-value-same-length t c = wrote-length (input-value-returns t c .walked .wrote)
 
 list-slice-aggregate-comma-separated : (t : ℕ) → list-lts.Need-slice-aggregate-comma-separated (claims-list t) (list-at t) list.Post
-list-slice-aggregate-comma-separated t c = search needs
+list-slice-aggregate-comma-separated t c = refl
 
 list-slice-aggregate-comma-separated-2 : (t : ℕ) → list-lts.Need-slice-aggregate-comma-separated-2 (claims-list t) (list-at t) list.Post
-list-slice-aggregate-comma-separated-2 t c = search needs
+list-slice-aggregate-comma-separated-2 t c = refl
 
 list-comma-separated-requires : (t : ℕ) → list-lts.Need-comma-separated-requires (claims-list t) (list-at t) list.Post
 list-comma-separated-requires t c κs = (omega (arith, (c .before .before .before .before .before .before .before .pre) .0), (c .before .before .before .before .before .before .before .pre) .1)
@@ -956,14 +955,14 @@ list-same-length : (t : ℕ) → list-lts.Need-same-length (claims-list t) (list
 list-same-length t c = wrote-length (list-returns t c 0 .walked .wrote)
 
 object-slice-aggregate-comma-separated : (t : ℕ) → object-lts.Need-slice-aggregate-comma-separated (claims-object t) (object-at t) object.Post
-object-slice-aggregate-comma-separated t c = search needs
+object-slice-aggregate-comma-separated t c = refl
 
 object-slice-aggregate-comma-separated-2 :
     (t : ℕ) → object-lts.Need-slice-aggregate-comma-separated-2 (
       comma-separated-below t,
       comma-separated.Post,
     ) (object-at t) object.Post
-object-slice-aggregate-comma-separated-2 t c = search needs
+object-slice-aggregate-comma-separated-2 t c = refl
 
 object-comma-separated-requires : (t : ℕ) → object-lts.Need-comma-separated-requires (claims-object t) (object-at t) object.Post
 object-comma-separated-requires t c κs = (omega (arith, (c .before .before .before .before .before .before .before .pre) .0), (c .before .before .before .before .before .before .before .pre) .1)
@@ -999,10 +998,10 @@ optional-braces-is-next-requires : (t : ℕ) → optional-braces-lts.Need-is-nex
 optional-braces-is-next-requires t c κs = rest-within ((c .before .before .before .before .pre) .1 .rest)
 
 optional-braces-slice-aggregate-token : (t : ℕ) → optional-braces-lts.Need-slice-aggregate-token (claims-optional-braces t) (optional-braces-at t) optional-braces.Post
-optional-braces-slice-aggregate-token t c = search needs
+optional-braces-slice-aggregate-token t c = refl
 
 optional-braces-token-requires : (t : ℕ) → optional-braces-lts.Need-token-requires (claims-optional-braces t) (optional-braces-at t) optional-braces.Post
-optional-braces-token-requires t c κs = search needs
+optional-braces-token-requires t c κs = tt
 
 optional-braces-curly-brackets-requires :
     (t : ℕ) → optional-braces-lts.Need-curly-brackets-requires (
@@ -1257,10 +1256,10 @@ serialize-impl-returns-20 : (t : ℕ) → serialize-impl-lts.Need-returns-20 (cl
 serialize-impl-returns-20 t c = wrote-as (wrote-none (record { place = omega arith; size = omega arith })) (no-kind _ _ _ _ (past-all _ _ ((c .before .before .before .before .before .before .kind) .ensures .is) ((c .if3) .left) ((c .before .before .before .match) .rest .1)))
 
 spread-slice-aggregate-token : (t : ℕ) → spread-lts.Need-slice-aggregate-token (claims-spread t) (spread-at t) spread.Post
-spread-slice-aggregate-token t c = search needs
+spread-slice-aggregate-token t c = refl
 
 spread-token-requires : (t : ℕ) → spread-lts.Need-token-requires (claims-spread t) (spread-at t) spread.Post
-spread-token-requires t c κs = search needs
+spread-token-requires t c κs = tt
 
 spread-name-requires : (t : ℕ) → spread-lts.Need-name-requires (claims-spread t) (spread-at t) spread.Post
 spread-name-requires t c κs = (c .before .before .before .before .before .before .before .before .before .before .pre) .1 .text
@@ -1276,10 +1275,10 @@ spread-same-length : (t : ℕ) → spread-lts.Need-same-length (claims-spread t)
 spread-same-length t c = wrote-length (spread-returns t c .walked .wrote)
 
 value-slice-aggregate-token : (t : ℕ) → value-lts.Need-slice-aggregate-token (claims-value t) (value-at t) value.Post
-value-slice-aggregate-token t c = search needs
+value-slice-aggregate-token t c = refl
 
 value-token-requires : (t : ℕ) → value-lts.Need-token-requires (claims-value t) (value-at t) value.Post
-value-token-requires t c κs = search needs
+value-token-requires t c κs = tt
 
 value-boolean-requires : (t : ℕ) → value-lts.Need-boolean-requires (claims-value t) (value-at t) value.Post
 value-boolean-requires t c κs = (c .before .before .before .before .before .before .pre) .1 .0 .text .node
@@ -1369,19 +1368,19 @@ value-same-length-9 : (t : ℕ) → value-lts.Need-same-length-9 (claims-value t
 value-same-length-9 t c = wrote-length (value-returns-9 t c .walked .wrote)
 
 variable-slice-aggregate-token : (t : ℕ) → variable-lts.Need-slice-aggregate-token (claims-variable t) (variable-at t) variable.Post
-variable-slice-aggregate-token t c = search needs
+variable-slice-aggregate-token t c = refl
 
 variable-token-requires : (t : ℕ) → variable-lts.Need-token-requires (claims-variable t) (variable-at t) variable.Post
-variable-token-requires t c κs = search needs
+variable-token-requires t c κs = tt
 
 variable-name-requires : (t : ℕ) → variable-lts.Need-name-requires (claims-variable t) (variable-at t) variable.Post
 variable-name-requires t c κs = (c .before .before .before .before .before .before .before .before .before .before .pre) .1 .text
 
 variable-slice-aggregate-token-2 : (t : ℕ) → variable-lts.Need-slice-aggregate-token-2 (claims-variable t) (variable-at t) variable.Post
-variable-slice-aggregate-token-2 t c = search needs
+variable-slice-aggregate-token-2 t c = refl
 
 variable-token-requires-2 : (t : ℕ) → variable-lts.Need-token-requires-2 (claims-variable t) (variable-at t) variable.Post
-variable-token-requires-2 t c κs = search needs
+variable-token-requires-2 t c κs = tt
 
 variable-one-requires : (t : ℕ) → variable-lts.Need-one-requires (claims-variable t) (variable-at t) variable.Post
 variable-one-requires t c κs = (omega (arith, (c .before .before .before .before .before .before .before .before .before .before .before .before .before .before .before .before .before .before .before .pre) .0), here (jobs-kept (jobs-kept (jobs-kept ((c .before .before .before .before .before .before .before .before .before .before .before .before .before .before .before .before .before .before .before .pre) .1 .jobs) ((c .before .before .before .before .before .before .before .before .before .before .before .before .token) .ensures)) ((c .before .before .before .before .before .before .before .before .name) .ensures)) ((c .before .before .before .token2) .ensures)))

@@ -3,7 +3,6 @@ use Rattle.types.specs.TypeJob.{node-of, text-of, some-depth, is-list, i
 use Rattle.meaning.specs.Settings.{defaultSettings}
 use Rattle.pen.specs.Wrote.{wrote-length}
 use Rattle.meaning.specs.Rules.{token}
-use borrow.Author.Needs.{needs}
 use native.Mathlib.Omega.{arith}
 use Prim.Native.Nat.{_+_, _-_}
 use mathlib.Core.Path.{refl, sym, _∙_}
@@ -53,7 +52,7 @@ serialize-type-name-requires : (t : ℕ) → serialize-type-lts.Need-name-requir
 serialize-type-name-requires t c κs = text-of ((c .before .before .before .before .before .before .before .pre) .1)
 
 serialize-type-slice-aggregate-if-one : (t : ℕ) → serialize-type-lts.Need-slice-aggregate-if-one (claims-serialize-type t) (serialize-type-at t) serialize-type.Post
-serialize-type-slice-aggregate-if-one t c = search needs
+serialize-type-slice-aggregate-if-one t c = refl
 
 serialize-type-if-one-requires : (t : ℕ) → serialize-type-lts.Need-if-one-requires (claims-serialize-type t) (serialize-type-at t) serialize-type.Post
 serialize-type-if-one-requires t c κs = node-of ((c .before .before .before .before .before .before .before .before .before .before .before .before .pre) .1)
@@ -65,10 +64,10 @@ serialize-type-returns : (t : ℕ) → serialize-type-lts.Need-returns (claims-s
 serialize-type-returns t c = λ s. named-type s refl (sym ((c .before .before .before .before .before .before .before .before .before .before .before .kind) .ensures .is) ∙ (c .before .before .before .before .before .before .before .before .before .before .if1) .taken) ((c .before .before .before .before .before .before .before .before .name) .ensures) ((c .before .before .before .if-one) .ensures _ s _ (token "!") refl refl)
 
 serialize-type-slice-aggregate-token : (t : ℕ) → serialize-type-lts.Need-slice-aggregate-token (claims-serialize-type t) (serialize-type-at t) serialize-type.Post
-serialize-type-slice-aggregate-token t c = search needs
+serialize-type-slice-aggregate-token t c = refl
 
 serialize-type-token-requires : (t : ℕ) → serialize-type-lts.Need-token-requires (claims-serialize-type t) (serialize-type-at t) serialize-type.Post
-serialize-type-token-requires t c κs = search needs
+serialize-type-token-requires t c κs = tt
 
 serialize-type-sub-serialize-type : (t : ℕ) → serialize-type-lts.Need-sub-serialize-type (claims-serialize-type t) (serialize-type-at t) serialize-type.Post
 serialize-type-sub-serialize-type t c = some-depth ((c .before .before .before .before .before .before .before .before .before .before .before .pre) .1)
@@ -80,10 +79,10 @@ serialize-type-past-requires : (t : ℕ) → serialize-type-lts.Need-past-requir
 serialize-type-past-requires t c κs = node-of (inner-job ((c .before .before .before .before .before .before .before .before .before .before .before .before .before .before .before .pre) .1) (is-list ((c .before .before .before .before .before .before .before .before .before .before .before .before .before .before .before .pre) .1) ((c .before .before .before .before .before .before .before .before .before .before .kind) .ensures .is) ((c .before .before .before .before .before .before .before .before .before .if1) .left)))
 
 serialize-type-slice-aggregate-token-2 : (t : ℕ) → serialize-type-lts.Need-slice-aggregate-token-2 (claims-serialize-type t) (serialize-type-at t) serialize-type.Post
-serialize-type-slice-aggregate-token-2 t c = search needs
+serialize-type-slice-aggregate-token-2 t c = refl
 
 serialize-type-token-requires-2 : (t : ℕ) → serialize-type-lts.Need-token-requires-2 (claims-serialize-type t) (serialize-type-at t) serialize-type.Post
-serialize-type-token-requires-2 t c κs = search needs
+serialize-type-token-requires-2 t c κs = tt
 
 serialize-type-slice-aggregate-if-one-2 :
     (t : ℕ) → serialize-type-lts.Need-slice-aggregate-if-one-2 (
@@ -100,7 +99,7 @@ serialize-type-slice-aggregate-if-one-2 :
       past-reads.Asked,
       past-reads.Learnt,
     ) (serialize-type-at t) serialize-type.Post
-serialize-type-slice-aggregate-if-one-2 t c = search needs
+serialize-type-slice-aggregate-if-one-2 t c = refl
 
 serialize-type-if-one-requires-2 : (t : ℕ) → serialize-type-lts.Need-if-one-requires-2 (claims-serialize-type t) (serialize-type-at t) serialize-type.Post
 serialize-type-if-one-requires-2 t c κs = node-of ((c .before .before .before .before .before .before .before .before .before .before .before .before .before .before .before .before .before .before .before .before .before .before .before .pre) .1)
