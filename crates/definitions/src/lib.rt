@@ -24,8 +24,6 @@ use pen::Pen;
 
 const OPERATION: usize = 1;
 
-const DIRECTIVE: usize = 19;
-
 const VARIABLE_DEFINITION: usize = 21;
 
 const INPUT_VALUE_DEFINITION: usize = 22;
@@ -127,19 +125,7 @@ fn tail(
     requires { ⌜ Jobs (now table) (now words) (now pool) (at .node .0) (to .0) depth (state .level + 1) ⌝ }
     ensures { λ r. ⌜ ((n : ℕ) → Did (now (words .entry)) (now (pool .entry)) (under state (now (prefix .entry))) n (to .0) tail (now (out .entry)) at (now (out .exit)) r) ⌝ }
 {
-    let a = serialize::each(
-        words,
-        pool,
-        table,
-        Class::Kind(DIRECTIVE),
-        Gap::Space,
-        to,
-        depth,
-        prefix,
-        state,
-        out,
-        at,
-    );
+    let a = serialize::directives(words, pool, table, to, depth, prefix, state, out, at);
     let b = layout::token(out, a, b" ");
     serialize::curly_brackets(
         words,
@@ -262,19 +248,7 @@ fn schema(
 {
     let a = leaves::serialize_description(words, pool, table, to, prefix, state, out, at);
     let b = layout::token(out, a, b"schema");
-    let c = serialize::each(
-        words,
-        pool,
-        table,
-        Class::Kind(DIRECTIVE),
-        Gap::Space,
-        to,
-        depth,
-        prefix,
-        state,
-        out,
-        b,
-    );
+    let c = serialize::directives(words, pool, table, to, depth, prefix, state, out, b);
     let d = layout::token(out, c, b" ");
     serialize::curly_brackets(
         words,
@@ -306,19 +280,7 @@ fn schema_extension(
     ensures { λ r. ⌜ Did (now (words .entry)) (now (pool .entry)) (under state (now (prefix .entry))) (node .0) (to .0) (ruleOf 11) (now (out .entry)) at (now (out .exit)) r ⌝ }
 {
     let a = layout::token(out, at, b"extend schema");
-    let b = serialize::each(
-        words,
-        pool,
-        table,
-        Class::Kind(DIRECTIVE),
-        Gap::Space,
-        to,
-        depth,
-        prefix,
-        state,
-        out,
-        a,
-    );
+    let b = serialize::directives(words, pool, table, to, depth, prefix, state, out, a);
     serialize::optional_braces(
         words,
         pool,
@@ -364,19 +326,7 @@ fn object_type_like(
         out,
         a,
     );
-    let c = serialize::each(
-        words,
-        pool,
-        table,
-        Class::Kind(DIRECTIVE),
-        Gap::Space,
-        to,
-        depth,
-        prefix,
-        state,
-        out,
-        b,
-    );
+    let c = serialize::directives(words, pool, table, to, depth, prefix, state, out, b);
     serialize::optional_braces(
         words,
         pool,
@@ -408,19 +358,7 @@ fn union(
 {
     let a = layout::token(out, at, b"union ");
     let b = layout::name(words, pool, node, out, a);
-    let c = serialize::each(
-        words,
-        pool,
-        table,
-        Class::Kind(DIRECTIVE),
-        Gap::Space,
-        to,
-        depth,
-        prefix,
-        state,
-        out,
-        b,
-    );
+    let c = serialize::directives(words, pool, table, to, depth, prefix, state, out, b);
     listed_after(
         words,
         pool,
@@ -454,19 +392,7 @@ fn scalar(
 {
     let a = layout::token(out, at, b"scalar ");
     let b = layout::name(words, pool, node, out, a);
-    serialize::each(
-        words,
-        pool,
-        table,
-        Class::Kind(DIRECTIVE),
-        Gap::Space,
-        to,
-        depth,
-        prefix,
-        state,
-        out,
-        b,
-    )
+    serialize::directives(words, pool, table, to, depth, prefix, state, out, b)
 }
 
 fn enumeration(
@@ -486,19 +412,7 @@ fn enumeration(
 {
     let a = layout::token(out, at, b"enum ");
     let b = layout::name(words, pool, node, out, a);
-    let c = serialize::each(
-        words,
-        pool,
-        table,
-        Class::Kind(DIRECTIVE),
-        Gap::Space,
-        to,
-        depth,
-        prefix,
-        state,
-        out,
-        b,
-    );
+    let c = serialize::directives(words, pool, table, to, depth, prefix, state, out, b);
     serialize::optional_braces(
         words,
         pool,
@@ -530,19 +444,7 @@ fn input_object(
 {
     let a = layout::token(out, at, b"input ");
     let b = layout::name(words, pool, node, out, a);
-    let c = serialize::each(
-        words,
-        pool,
-        table,
-        Class::Kind(DIRECTIVE),
-        Gap::Space,
-        to,
-        depth,
-        prefix,
-        state,
-        out,
-        b,
-    );
+    let c = serialize::directives(words, pool, table, to, depth, prefix, state, out, b);
     serialize::optional_braces(
         words,
         pool,

@@ -7,8 +7,10 @@ ghost use Rattle.meaning.specs.Literal.{literal};
 ghost use Rattle.meaning.specs.Settings.{Settings};
 ghost use Rattle.meaning.specs.Table.{textAt};
 ghost use Rattle.meaning.specs.Rules.{Part, text, ifNamed, ifOne, description, operationType, locationName, ruleOf};
+ghost use Rattle.meaning.specs.Children.{a};
 ghost use Rattle.table.specs.Words.{InTable, TextInPool};
 ghost use Rattle.layout.specs.Written.{under, Kept};
+ghost use Rattle.layout.specs.Kids.{nextIs};
 ghost use Rattle.layout.specs.Jobs.{Ranged};
 ghost use Rattle.layout.specs.Did.{Did, allPlain, bytes};
 ghost use Rattle.quoted.specs.Classes.{classes};
@@ -51,7 +53,27 @@ pub fn string_value(
     Walk { node: i, pen: p }
 }
 
-// The description, if there is one, and a new line.
+// The description that is next, and a new line.
+fn described(
+    words: &[u32],
+    pool: &[u8],
+    table: &[u8; 256],
+    to: NodeNumber,
+    prefix: &[u8],
+    state: State,
+    out: &mut [u8],
+    at: Walk,
+) -> Walk
+    requires { ⌜ Ranged (now words) (now pool) (at .node .0) (to .0) × (now table ≡ classes) × (nextIs (now words) (a 18) (at .node .0) (to .0) ≡ true) ⌝ }
+    ensures { λ r. ⌜ ((n : ℕ) → Did (now (words .entry)) (now (pool .entry)) (under state (now (prefix .entry))) n (to .0) description (now (out .entry)) at (now (out .exit)) r) ⌝ }
+{
+    let child = at.node;
+    let a = string_value(words, pool, table, true, child, prefix, state, out, at);
+    let b = layout::past(words, a);
+    layout::new_line_or_space(prefix, state, out, b)
+}
+
+// The same, if there is one: a test that stands apart, so that a caller is spared the call.
 pub fn serialize_description(
     words: &[u32],
     pool: &[u8],
@@ -65,11 +87,8 @@ pub fn serialize_description(
     requires { ⌜ Ranged (now words) (now pool) (at .node .0) (to .0) × (now table ≡ classes) ⌝ }
     ensures { λ r. ⌜ ((n : ℕ) → Did (now (words .entry)) (now (pool .entry)) (under state (now (prefix .entry))) n (to .0) description (now (out .entry)) at (now (out .exit)) r) ⌝ }
 {
-    let child = at.node;
-    if layout::is_next(words, Class::Kind(DESCRIPTION), child, to) {
-        let a = string_value(words, pool, table, true, child, prefix, state, out, at);
-        let b = layout::past(words, a);
-        return layout::new_line_or_space(prefix, state, out, b);
+    if layout::is_next(words, Class::Kind(DESCRIPTION), at.node, to) {
+        return described(words, pool, table, to, prefix, state, out, at);
     }
     at
 }

@@ -189,3 +189,13 @@ fewer-left {w} {p} {e} c {at = at} j z k y =
 
 pub left-length : {d : List ℕ} {p : Pen} {u d′ : List ℕ} {q : Pen} {v : List ℕ} → Left d p u d′ q v → length d′ ≡ length d
 left-length {d} {p} {u} {d′} {q} {v} x = sym (length-put d′ (q .at .0) v) ∙ ap length (x .text) ∙ length-put d (p .at .0) u
+
+-- where the next child is not of the class, a walk over the class writes nothing
+pub nothing-said : {w p : List ℕ} {e h : ℕ} (c : Class) (before : List ℕ) (s : Settings) {d : List ℕ} {at : Walk} {d′ : List ℕ} {r : Walk}
+    → Rest w p (at .node .0) e h → nextIs w c (at .node .0) e ≡ false → Kept d at [] d′ r
+    → Walked w p e (each before s (run childIn c (kids w p (at .node .0) e))) (past childIn c (kids w p (at .node .0) e)) d at d′ r
+unfolding each
+nothing-said {w} {p} {e} c before s {at = at} j z k =
+    let m = kids w p (at .node .0) e in
+    let f = starts-next (rest-ranged j) c ∙ z in
+    walked-as (sym (ap (each before s) (no-run c m f))) (sym (none-past c m f)) (kept-walked k)

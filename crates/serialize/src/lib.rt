@@ -2,11 +2,12 @@
 ghost use mathlib.Core.Path.{_≡_};
 ghost use mathlib.Core.List.{_∷_, [], _++_};
 ghost use Prim.Native.Nat.{ℕ, _+_, _≤_, _<_};
+ghost use Rattle.meaning.specs.Ascii.{ascii};
 ghost use Rattle.meaning.specs.Kind;
 ghost use Rattle.meaning.specs.Settings.{onSingleLine};
 ghost use Rattle.meaning.specs.Table.{kindAt, treeAt};
 ghost use Rattle.meaning.specs.Children.{a, rest, run, past};
-ghost use Rattle.meaning.specs.Rules.{parenthesized, singleLine, argumentDefinitions, defaultValue, optionalBraces, ruleOf};
+ghost use Rattle.meaning.specs.Rules.{commaSeparated, parenthesized, singleLine, singleLineUnlessMarked, argumentDefinitions, defaultValue, optionalBraces, ruleOf};
 ghost use Rattle.meaning.specs.Layout.{childIn, firstSaid, each, inBraces, inCommas, nodeText};
 ghost use Rattle.pen.specs.Wrote.{Wrote};
 ghost use Rattle.layout.specs.Classes.{meant};
@@ -226,7 +227,75 @@ pub fn arguments(
     at
 }
 
+// The directives, each after a space. Mostly there is none: the test stands apart from the walk, so that a caller is spared the call.
+pub fn directives(
+    words: &[u32],
+    pool: &[u8],
+    table: &[u8; 256],
+    to: NodeNumber,
+    depth: usize,
+    prefix: &[u8],
+    state: State,
+    out: &mut [u8],
+    at: Walk,
+) -> Walk
+    requires { ⌜ Jobs (now table) (now words) (now pool) (at .node .0) (to .0) depth (state .level) ⌝ }
+    ensures { λ r. ⌜ Walked (now (words .entry)) (now (pool .entry)) (to .0) (each (ascii " ") (under state (now (prefix .entry))) (run childIn (a 19) (kids (now (words .entry)) (now (pool .entry)) (at .node .0) (to .0)))) (past childIn (a 19) (kids (now (words .entry)) (now (pool .entry)) (at .node .0) (to .0))) (now (out .entry)) at (now (out .exit)) r ⌝ }
+{
+    let class = Class::Kind(DIRECTIVE);
+    if layout::is_next(words, class, at.node, to) {
+        return each(
+            words,
+            pool,
+            table,
+            class,
+            Gap::Space,
+            to,
+            depth,
+            prefix,
+            state,
+            out,
+            at,
+        );
+    }
+    at
+}
+
 // Argument definitions in parentheses, on one line unless one has a description or a directive.
+fn signature(
+    words: &[u32],
+    pool: &[u8],
+    table: &[u8; 256],
+    to: NodeNumber,
+    depth: usize,
+    prefix: &[u8],
+    state: State,
+    out: &mut [u8],
+    at: Walk,
+) -> Walk
+    requires { ⌜ Jobs (now table) (now words) (now pool) (at .node .0) (to .0) depth (state .level + 1) ⌝ }
+    ensures { λ r. ⌜ ((n : ℕ) → Did (now (words .entry)) (now (pool .entry)) (under state (now (prefix .entry))) n (to .0) (commaSeparated singleLineUnlessMarked (ascii "(") (ascii ")") (a 22) ∷ []) (now (out .entry)) at (now (out .exit)) r) ⌝ }
+{
+    let marked = layout::any_marked(words, pool, at.node, to);
+    let lines = layout::single_line_unless(marked, state);
+    let class = Class::Kind(INPUT_VALUE_DEFINITION);
+    comma_separated(
+        words,
+        pool,
+        table,
+        b"(",
+        b")",
+        class,
+        to,
+        depth,
+        prefix,
+        lines,
+        out,
+        at,
+    )
+}
+
+// The same, where there are any.
 pub fn arguments_definition(
     words: &[u32],
     pool: &[u8],
@@ -241,25 +310,8 @@ pub fn arguments_definition(
     requires { ⌜ Jobs (now table) (now words) (now pool) (at .node .0) (to .0) depth (state .level + 1) ⌝ }
     ensures { λ r. ⌜ ((n : ℕ) → Did (now (words .entry)) (now (pool .entry)) (under state (now (prefix .entry))) n (to .0) argumentDefinitions (now (out .entry)) at (now (out .exit)) r) ⌝ }
 {
-    let node = at.node;
-    let class = Class::Kind(INPUT_VALUE_DEFINITION);
-    if layout::is_next(words, class, node, to) {
-        let marked = layout::any_marked(words, pool, node, to);
-        let lines = layout::single_line_unless(marked, state);
-        return comma_separated(
-            words,
-            pool,
-            table,
-            b"(",
-            b")",
-            class,
-            to,
-            depth,
-            prefix,
-            lines,
-            out,
-            at,
-        );
+    if layout::is_next(words, Class::Kind(INPUT_VALUE_DEFINITION), at.node, to) {
+        return signature(words, pool, table, to, depth, prefix, state, out, at);
     }
     at
 }
@@ -360,19 +412,7 @@ fn variable(
     let c = layout::token(out, b, b": ");
     let d = one(words, pool, table, to, depth, prefix, state, out, c);
     let e = default_value(words, pool, table, to, depth, prefix, state, out, d);
-    each(
-        words,
-        pool,
-        table,
-        Class::Kind(DIRECTIVE),
-        Gap::Space,
-        to,
-        depth,
-        prefix,
-        state,
-        out,
-        e,
-    )
+    directives(words, pool, table, to, depth, prefix, state, out, e)
 }
 
 fn input_value(
@@ -395,19 +435,7 @@ fn input_value(
     let c = layout::token(out, b, b": ");
     let d = one(words, pool, table, to, depth, prefix, state, out, c);
     let e = default_value(words, pool, table, to, depth, prefix, state, out, d);
-    each(
-        words,
-        pool,
-        table,
-        Class::Kind(DIRECTIVE),
-        Gap::Space,
-        to,
-        depth,
-        prefix,
-        state,
-        out,
-        e,
-    )
+    directives(words, pool, table, to, depth, prefix, state, out, e)
 }
 
 fn field_definition(
@@ -430,19 +458,7 @@ fn field_definition(
     let c = arguments_definition(words, pool, table, to, depth, prefix, state, out, b);
     let d = layout::token(out, c, b": ");
     let e = one(words, pool, table, to, depth, prefix, state, out, d);
-    each(
-        words,
-        pool,
-        table,
-        Class::Kind(DIRECTIVE),
-        Gap::Space,
-        to,
-        depth,
-        prefix,
-        state,
-        out,
-        e,
-    )
+    directives(words, pool, table, to, depth, prefix, state, out, e)
 }
 
 fn enum_value(
@@ -462,19 +478,7 @@ fn enum_value(
 {
     let a = leaves::serialize_description(words, pool, table, to, prefix, state, out, at);
     let b = layout::name(words, pool, node, out, a);
-    each(
-        words,
-        pool,
-        table,
-        Class::Kind(DIRECTIVE),
-        Gap::Space,
-        to,
-        depth,
-        prefix,
-        state,
-        out,
-        b,
-    )
+    directives(words, pool, table, to, depth, prefix, state, out, b)
 }
 
 fn field(
@@ -506,19 +510,7 @@ fn field(
         out,
         b,
     );
-    let d = each(
-        words,
-        pool,
-        table,
-        Class::Kind(DIRECTIVE),
-        Gap::Space,
-        to,
-        depth,
-        prefix,
-        state,
-        out,
-        c,
-    );
+    let d = directives(words, pool, table, to, depth, prefix, state, out, c);
     optional_braces(
         words,
         pool,
@@ -550,19 +542,7 @@ fn spread(
 {
     let a = layout::token(out, at, b"...");
     let b = layout::name(words, pool, node, out, a);
-    each(
-        words,
-        pool,
-        table,
-        Class::Kind(DIRECTIVE),
-        Gap::Space,
-        to,
-        depth,
-        prefix,
-        state,
-        out,
-        b,
-    )
+    directives(words, pool, table, to, depth, prefix, state, out, b)
 }
 
 fn inline(
@@ -582,19 +562,7 @@ fn inline(
 {
     let a = layout::token(out, at, b"...");
     let b = leaves::if_named(words, pool, node, b" on ", out, a);
-    let c = each(
-        words,
-        pool,
-        table,
-        Class::Kind(DIRECTIVE),
-        Gap::Space,
-        to,
-        depth,
-        prefix,
-        state,
-        out,
-        b,
-    );
+    let c = directives(words, pool, table, to, depth, prefix, state, out, b);
     let d = layout::token(out, c, b" ");
     curly_brackets(
         words,

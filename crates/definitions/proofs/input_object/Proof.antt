@@ -25,15 +25,15 @@ token-requires c κs = tt
 name-requires : tie.Need-name-requires
 name-requires c κs = (c .before .before .before .before .before .before .before .before .before .before .pre) .text
 
-each-requires : tie.Need-each-requires
-each-requires c κs = here (jobs-kept (jobs-kept ((c .before .before .before .before .before .before .before .before .before .before .before .before .before .before .pre) .jobs) ((c .before .before .before .before .before .before .before .token) .ensures)) ((c .before .before .before .name) .ensures))
+directives-requires : tie.Need-directives-requires
+directives-requires c κs = here (jobs-kept (jobs-kept ((c .before .before .before .before .before .before .before .before .before .before .before .before .before .before .pre) .jobs) ((c .before .before .before .before .before .before .before .token) .ensures)) ((c .before .before .before .name) .ensures))
 
 optional-braces-requires : tie.Need-optional-braces-requires
-optional-braces-requires c κs = jobs-walked (jobs-kept (jobs-kept ((c .before .before .before .before .before .before .before .before .before .before .before .before .before .before .before .before .before .before .pre) .jobs) ((c .before .before .before .before .before .before .before .before .before .before .before .token) .ensures)) ((c .before .before .before .before .before .before .before .name) .ensures)) ((c .before .before .before .each) .ensures)
+optional-braces-requires c κs = jobs-walked (jobs-kept (jobs-kept ((c .before .before .before .before .before .before .before .before .before .before .before .before .before .before .before .before .before .before .pre) .jobs) ((c .before .before .before .before .before .before .before .before .before .before .before .token) .ensures)) ((c .before .before .before .before .before .before .before .name) .ensures)) ((c .before .before .before .directives) .ensures)
 
 returns : tie.Need-returns
 unfolding body
-returns c = did-tokens (token "input" ++ sp) refl ((c .before .before .before .before .before .before .before .before .before .before .before .before .before .before .token) .ensures) ⨾ did-name ((c .before .before .before .before .before .before .before .before .before .before .name) .ensures) ⨾ did-spaced _ ((c .before .before .before .before .before .before .each) .ensures) ⨾ (c .before .before .optional-braces) .ensures _
+returns c = did-tokens (token "input" ++ sp) refl ((c .before .before .before .before .before .before .before .before .before .before .before .before .before .before .token) .ensures) ⨾ did-name ((c .before .before .before .before .before .before .before .before .before .before .name) .ensures) ⨾ did-spaced _ ((c .before .before .before .before .before .before .directives) .ensures) ⨾ (c .before .before .optional-braces) .ensures _
 
 same-length : tie.Need-same-length
 same-length c = wrote-length (returns c .walked .wrote)
@@ -45,7 +45,7 @@ input-object-spec =
     slice-aggregate-token
     token-requires
     name-requires
-    each-requires
+    directives-requires
     optional-braces-requires
     same-length
     returns)

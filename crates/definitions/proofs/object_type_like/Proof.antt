@@ -25,14 +25,14 @@ slice-aggregate-listed-after c = refl
 listed-after-requires : tie.Need-listed-after-requires
 listed-after-requires c κs = jobs-kept ((c .before .before .before .before .before .before .before .before .before .before .pre) .jobs) ((c .before .before .before .before .name) .ensures)
 
-each-requires : tie.Need-each-requires
-each-requires c κs = here (jobs-walked (jobs-kept ((c .before .before .before .before .before .before .before .before .before .before .before .before .before .before .pre) .jobs) ((c .before .before .before .before .before .before .before .before .name) .ensures)) ((c .before .before .before .listed-after) .ensures 0 (sp ++ token "implements" ++ sp) (ascii "&") refl refl refl .walked))
+directives-requires : tie.Need-directives-requires
+directives-requires c κs = here (jobs-walked (jobs-kept ((c .before .before .before .before .before .before .before .before .before .before .before .before .before .before .pre) .jobs) ((c .before .before .before .before .before .before .before .before .name) .ensures)) ((c .before .before .before .listed-after) .ensures 0 (sp ++ token "implements" ++ sp) (ascii "&") refl refl refl .walked))
 
 optional-braces-requires : tie.Need-optional-braces-requires
-optional-braces-requires c κs = jobs-walked (jobs-walked (jobs-kept ((c .before .before .before .before .before .before .before .before .before .before .before .before .before .before .before .before .before .before .pre) .jobs) ((c .before .before .before .before .before .before .before .before .before .before .before .before .name) .ensures)) ((c .before .before .before .before .before .before .before .listed-after) .ensures 0 (sp ++ token "implements" ++ sp) (ascii "&") refl refl refl .walked)) ((c .before .before .before .each) .ensures)
+optional-braces-requires c κs = jobs-walked (jobs-walked (jobs-kept ((c .before .before .before .before .before .before .before .before .before .before .before .before .before .before .before .before .before .before .pre) .jobs) ((c .before .before .before .before .before .before .before .before .before .before .before .before .name) .ensures)) ((c .before .before .before .before .before .before .before .listed-after) .ensures 0 (sp ++ token "implements" ++ sp) (ascii "&") refl refl refl .walked)) ((c .before .before .before .directives) .ensures)
 
 returns : tie.Need-returns
-returns c = did-name ((c .before .before .before .before .before .before .before .before .before .before .before .before .before .before .before .name) .ensures) ⨾ (c .before .before .before .before .before .before .before .before .before .before .listed-after) .ensures _ (sp ++ token "implements" ++ sp) (ascii "&") refl refl refl ⨾ did-spaced _ ((c .before .before .before .before .before .before .each) .ensures) ⨾ (c .before .before .optional-braces) .ensures _
+returns c = did-name ((c .before .before .before .before .before .before .before .before .before .before .before .before .before .before .before .name) .ensures) ⨾ (c .before .before .before .before .before .before .before .before .before .before .listed-after) .ensures _ (sp ++ token "implements" ++ sp) (ascii "&") refl refl refl ⨾ did-spaced _ ((c .before .before .before .before .before .before .directives) .ensures) ⨾ (c .before .before .optional-braces) .ensures _
 
 same-length : tie.Need-same-length
 same-length c = wrote-length (returns c .walked .wrote)
@@ -44,7 +44,7 @@ object-type-like-spec =
     name-requires
     slice-aggregate-listed-after
     listed-after-requires
-    each-requires
+    directives-requires
     optional-braces-requires
     same-length
     returns)

@@ -25,12 +25,12 @@ token-requires c κs = tt
 name-requires : tie.Need-name-requires
 name-requires c κs = (c .before .before .before .before .before .before .before .before .before .before .pre) .text
 
-each-requires : tie.Need-each-requires
-each-requires c κs = here (jobs-kept (jobs-kept ((c .before .before .before .before .before .before .before .before .before .before .before .before .before .before .pre) .jobs) ((c .before .before .before .before .before .before .before .token) .ensures)) ((c .before .before .before .name) .ensures))
+directives-requires : tie.Need-directives-requires
+directives-requires c κs = here (jobs-kept (jobs-kept ((c .before .before .before .before .before .before .before .before .before .before .before .before .before .before .pre) .jobs) ((c .before .before .before .before .before .before .before .token) .ensures)) ((c .before .before .before .name) .ensures))
 
 returns : tie.Need-returns
 unfolding body
-returns c = did-tokens (token "scalar" ++ sp) refl ((c .before .before .before .before .before .before .before .before .before .before .token) .ensures) ⨾ did-name ((c .before .before .before .before .before .before .name) .ensures) ⨾ did-spaced _ ((c .before .before .each) .ensures)
+returns c = did-tokens (token "scalar" ++ sp) refl ((c .before .before .before .before .before .before .before .before .before .before .token) .ensures) ⨾ did-name ((c .before .before .before .before .before .before .name) .ensures) ⨾ did-spaced _ ((c .before .before .directives) .ensures)
 
 same-length : tie.Need-same-length
 same-length c = wrote-length (returns c .walked .wrote)
@@ -38,4 +38,4 @@ same-length c = wrote-length (returns c .walked .wrote)
 pub scalar-spec : {M : Type 1} → statement M
 scalar-spec =
     tie.close
-    (tie.spec slice-aggregate-token token-requires name-requires each-requires same-length returns)
+    (tie.spec slice-aggregate-token token-requires name-requires directives-requires same-length returns)

@@ -25,8 +25,8 @@ slice-aggregate-token c = refl
 token-requires : tie.Need-token-requires
 token-requires c κs = tt
 
-each-requires : tie.Need-each-requires
-each-requires c κs = here (jobs-kept (jobs-walked ((c .before .before .before .before .before .before .before .before .before .before .before .before .before .before .pre) .jobs) ((c .before .before .before .before .before .before .before .before .serialize-description) .ensures 0 .walked)) ((c .before .before .before .token) .ensures))
+directives-requires : tie.Need-directives-requires
+directives-requires c κs = here (jobs-kept (jobs-walked ((c .before .before .before .before .before .before .before .before .before .before .before .before .before .before .pre) .jobs) ((c .before .before .before .before .before .before .before .before .serialize-description) .ensures 0 .walked)) ((c .before .before .before .token) .ensures))
 
 slice-aggregate-token-2 : tie.Need-slice-aggregate-token-2
 slice-aggregate-token-2 c = refl
@@ -35,11 +35,11 @@ token-requires-2 : tie.Need-token-requires-2
 token-requires-2 c κs = tt
 
 curly-brackets-requires : tie.Need-curly-brackets-requires
-curly-brackets-requires c κs = jobs-kept (jobs-walked (jobs-kept (jobs-walked ((c .before .before .before .before .before .before .before .before .before .before .before .before .before .before .before .before .before .before .before .before .before .before .before .pre) .jobs) ((c .before .before .before .before .before .before .before .before .before .before .before .before .before .before .before .before .before .serialize-description) .ensures 0 .walked)) ((c .before .before .before .before .before .before .before .before .before .before .before .before .token) .ensures)) ((c .before .before .before .before .before .before .before .before .each) .ensures)) ((c .before .before .before .token2) .ensures)
+curly-brackets-requires c κs = jobs-kept (jobs-walked (jobs-kept (jobs-walked ((c .before .before .before .before .before .before .before .before .before .before .before .before .before .before .before .before .before .before .before .before .before .before .before .pre) .jobs) ((c .before .before .before .before .before .before .before .before .before .before .before .before .before .before .before .before .before .serialize-description) .ensures 0 .walked)) ((c .before .before .before .before .before .before .before .before .before .before .before .before .token) .ensures)) ((c .before .before .before .before .before .before .before .before .directives) .ensures)) ((c .before .before .before .token2) .ensures)
 
 returns : tie.Need-returns
 unfolding ruleOf
-returns c = (c .before .before .before .before .before .before .before .before .before .before .before .before .before .before .before .before .before .before .before .before .serialize-description) .ensures _ ⨾ did-tokens (token "schema") refl ((c .before .before .before .before .before .before .before .before .before .before .before .before .before .before .before .token) .ensures) ⨾ did-spaced _ ((c .before .before .before .before .before .before .before .before .before .before .before .each) .ensures) ⨾ did-tokens (sp) refl ((c .before .before .before .before .before .before .token2) .ensures) ⨾ did-braces _ ((c .before .before .curly-brackets) .ensures)
+returns c = (c .before .before .before .before .before .before .before .before .before .before .before .before .before .before .before .before .before .before .before .before .serialize-description) .ensures _ ⨾ did-tokens (token "schema") refl ((c .before .before .before .before .before .before .before .before .before .before .before .before .before .before .before .token) .ensures) ⨾ did-spaced _ ((c .before .before .before .before .before .before .before .before .before .before .before .directives) .ensures) ⨾ did-tokens (sp) refl ((c .before .before .before .before .before .before .token2) .ensures) ⨾ did-braces _ ((c .before .before .curly-brackets) .ensures)
 
 same-length : tie.Need-same-length
 same-length c = wrote-length (returns c .walked .wrote)
@@ -51,7 +51,7 @@ schema-spec =
     serialize-description-requires
     slice-aggregate-token
     token-requires
-    each-requires
+    directives-requires
     slice-aggregate-token-2
     token-requires-2
     curly-brackets-requires

@@ -22,15 +22,15 @@ slice-aggregate-token c = refl
 token-requires : tie.Need-token-requires
 token-requires c κs = tt
 
-each-requires : tie.Need-each-requires
-each-requires c κs = here (jobs-kept ((c .before .before .before .before .before .before .before .before .before .before .pre) .jobs) ((c .before .before .before .token) .ensures))
+directives-requires : tie.Need-directives-requires
+directives-requires c κs = here (jobs-kept ((c .before .before .before .before .before .before .before .before .before .before .pre) .jobs) ((c .before .before .before .token) .ensures))
 
 optional-braces-requires : tie.Need-optional-braces-requires
-optional-braces-requires c κs = jobs-walked (jobs-kept ((c .before .before .before .before .before .before .before .before .before .before .before .before .before .before .pre) .jobs) ((c .before .before .before .before .before .before .before .token) .ensures)) ((c .before .before .before .each) .ensures)
+optional-braces-requires c κs = jobs-walked (jobs-kept ((c .before .before .before .before .before .before .before .before .before .before .before .before .before .before .pre) .jobs) ((c .before .before .before .before .before .before .before .token) .ensures)) ((c .before .before .before .directives) .ensures)
 
 returns : tie.Need-returns
 unfolding ruleOf
-returns c = did-tokens (token "extend" ++ sp ++ token "schema") refl ((c .before .before .before .before .before .before .before .before .before .before .token) .ensures) ⨾ did-spaced _ ((c .before .before .before .before .before .before .each) .ensures) ⨾ (c .before .before .optional-braces) .ensures _
+returns c = did-tokens (token "extend" ++ sp ++ token "schema") refl ((c .before .before .before .before .before .before .before .before .before .before .token) .ensures) ⨾ did-spaced _ ((c .before .before .before .before .before .before .directives) .ensures) ⨾ (c .before .before .optional-braces) .ensures _
 
 same-length : tie.Need-same-length
 same-length c = wrote-length (returns c .walked .wrote)
@@ -41,7 +41,7 @@ schema-extension-spec =
     (tie.spec
     slice-aggregate-token
     token-requires
-    each-requires
+    directives-requires
     optional-braces-requires
     same-length
     returns)

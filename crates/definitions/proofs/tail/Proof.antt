@@ -16,8 +16,8 @@ use mathlib.Core.Path.{_≡_, refl, sym, ap, _∙_}
 use Rattle.definitions.proofs.tail.Statement.{statement}
 use Rattle.definitions.proofs.tail.Tie as tie
 
-each-requires : tie.Need-each-requires
-each-requires c κs = here ((c .before .before .before .before .before .pre))
+directives-requires : tie.Need-directives-requires
+directives-requires c κs = here ((c .before .before .before .before .before .pre))
 
 slice-aggregate-token : tie.Need-slice-aggregate-token
 slice-aggregate-token c = refl
@@ -26,10 +26,10 @@ token-requires : tie.Need-token-requires
 token-requires c κs = tt
 
 curly-brackets-requires : tie.Need-curly-brackets-requires
-curly-brackets-requires c κs = jobs-kept (jobs-walked ((c .before .before .before .before .before .before .before .before .before .before .before .before .before .before .pre)) ((c .before .before .before .before .before .before .before .before .each) .ensures)) ((c .before .before .before .token) .ensures)
+curly-brackets-requires c κs = jobs-kept (jobs-walked ((c .before .before .before .before .before .before .before .before .before .before .before .before .before .before .pre)) ((c .before .before .before .before .before .before .before .before .directives) .ensures)) ((c .before .before .before .token) .ensures)
 
 returns : tie.Need-returns
-returns c = λ n. did-spaced _ ((c .before .before .before .before .before .before .before .before .before .before .before .each) .ensures) ⨾ did-tokens (sp) refl ((c .before .before .before .before .before .before .token) .ensures) ⨾ did-braces _ ((c .before .before .curly-brackets) .ensures)
+returns c = λ n. did-spaced _ ((c .before .before .before .before .before .before .before .before .before .before .before .directives) .ensures) ⨾ did-tokens (sp) refl ((c .before .before .before .before .before .before .token) .ensures) ⨾ did-braces _ ((c .before .before .curly-brackets) .ensures)
 
 same-length : tie.Need-same-length
 same-length c = wrote-length (returns c 0 .walked .wrote)
@@ -38,7 +38,7 @@ pub tail-spec : {M : Type 1} → statement M
 tail-spec =
     tie.close
     (tie.spec
-    each-requires
+    directives-requires
     slice-aggregate-token
     token-requires
     curly-brackets-requires

@@ -25,18 +25,18 @@ token-requires c κs = tt
 name-requires : tie.Need-name-requires
 name-requires c κs = (c .before .before .before .before .before .before .before .before .before .before .pre) .text
 
-each-requires : tie.Need-each-requires
-each-requires c κs = here (jobs-kept (jobs-kept ((c .before .before .before .before .before .before .before .before .before .before .before .before .before .before .pre) .jobs) ((c .before .before .before .before .before .before .before .token) .ensures)) ((c .before .before .before .name) .ensures))
+directives-requires : tie.Need-directives-requires
+directives-requires c κs = here (jobs-kept (jobs-kept ((c .before .before .before .before .before .before .before .before .before .before .before .before .before .before .pre) .jobs) ((c .before .before .before .before .before .before .before .token) .ensures)) ((c .before .before .before .name) .ensures))
 
 slice-aggregate-listed-after : tie.Need-slice-aggregate-listed-after
 slice-aggregate-listed-after c = refl
 
 listed-after-requires : tie.Need-listed-after-requires
-listed-after-requires c κs = jobs-walked (jobs-kept (jobs-kept ((c .before .before .before .before .before .before .before .before .before .before .before .before .before .before .before .before .before .before .before .pre) .jobs) ((c .before .before .before .before .before .before .before .before .before .before .before .before .token) .ensures)) ((c .before .before .before .before .before .before .before .before .name) .ensures)) ((c .before .before .before .before .each) .ensures)
+listed-after-requires c κs = jobs-walked (jobs-kept (jobs-kept ((c .before .before .before .before .before .before .before .before .before .before .before .before .before .before .before .before .before .before .before .pre) .jobs) ((c .before .before .before .before .before .before .before .before .before .before .before .before .token) .ensures)) ((c .before .before .before .before .before .before .before .before .name) .ensures)) ((c .before .before .before .before .directives) .ensures)
 
 returns : tie.Need-returns
 unfolding body
-returns c = did-tokens (token "union" ++ sp) refl ((c .before .before .before .before .before .before .before .before .before .before .before .before .before .before .before .token) .ensures) ⨾ did-name ((c .before .before .before .before .before .before .before .before .before .before .before .name) .ensures) ⨾ did-spaced _ ((c .before .before .before .before .before .before .before .each) .ensures) ⨾ (c .before .before .listed-after) .ensures _ (sp ++ token "=" ++ sp) (ascii "|") refl refl refl
+returns c = did-tokens (token "union" ++ sp) refl ((c .before .before .before .before .before .before .before .before .before .before .before .before .before .before .before .token) .ensures) ⨾ did-name ((c .before .before .before .before .before .before .before .before .before .before .before .name) .ensures) ⨾ did-spaced _ ((c .before .before .before .before .before .before .before .directives) .ensures) ⨾ (c .before .before .listed-after) .ensures _ (sp ++ token "=" ++ sp) (ascii "|") refl refl refl
 
 same-length : tie.Need-same-length
 same-length c = wrote-length (returns c .walked .wrote)
@@ -48,7 +48,7 @@ union-spec =
     slice-aggregate-token
     token-requires
     name-requires
-    each-requires
+    directives-requires
     slice-aggregate-listed-after
     listed-after-requires
     same-length

@@ -1,7 +1,7 @@
 -- The printer of the nodes below definitions meets its contracts. Each function does the parts of its rule one after the other; the remaining
 -- depth falls from a node to its children, and within one depth the functions are ranked by who calls whom.
 use Rattle.serialize.specs.Kinds.{past-from, last-of, a-type, no-definition, past-all, no-kind}
-use Rattle.serialize.specs.Walks.{Run, run-all, run-turn, run-over, commas-some, commas-none, braces-some, braces-none, fewer-left, left-length}
+use Rattle.serialize.specs.Walks.{Run, run-all, run-turn, run-over, commas-some, commas-none, braces-some, braces-none, fewer-left, left-length, nothing-said}
 use Rattle.serialize.specs.Parts.{parts-of, jobs-kept, jobs-walked, one-done, jobs-deeper, jobs-single, jobs-lines, did-one, did-spaced, did-braces, did-commas, did-single-line, did-lines}
 use Rattle.types.specs.TypeJob.{type-job}
 use Rattle.layout.specs.Child.{no-one}
@@ -15,6 +15,7 @@ use Rattle.meaning.specs.Rules.{singleLine, singleLineUnlessMarked, commaSepara
 use Rattle.meaning.specs.Children.{a as ofKind, type, value}
 use Rattle.meaning.specs.Settings.{defaultSettings}
 use Rattle.meaning.specs.Ascii.{ascii}
+use borrow.Author.Needs.{needs}
 use lib.ListN.{length}
 use native.Mathlib.Omega.{arith}
 use Prim.Native.Nat.{_+_, _-_, _*_}
@@ -26,67 +27,73 @@ use borrow.Fn.Kinds.{In}
 use borrow.Fn.PlainCycle.{Measures, is, falls, and}
 use Rattle.serialize.proofs.argument.Reads as argument
 use Rattle.serialize.proofs.argument.Kinds as argument-kinds
-use Rattle.serialize.proofs.+argument+arguments+arguments_definition+comma_separated+curly_brackets+default_value+directive+each+enum_value+field+field_definition+inline+input_value+list+object+one+optional_braces+serialize_impl+spread+value+variable.Lts-argument as argument-lts
+use Rattle.serialize.proofs.+argument+arguments+arguments_definition+comma_separated+curly_brackets+default_value+directive+directives+each+enum_value+field+field_definition+inline+input_value+list+object+one+optional_braces+serialize_impl+signature+spread+value+variable.Lts-argument as argument-lts
 use Rattle.serialize.proofs.arguments.Reads as arguments
 use Rattle.serialize.proofs.arguments.Kinds as arguments-kinds
-use Rattle.serialize.proofs.+argument+arguments+arguments_definition+comma_separated+curly_brackets+default_value+directive+each+enum_value+field+field_definition+inline+input_value+list+object+one+optional_braces+serialize_impl+spread+value+variable.Lts-arguments as arguments-lts
+use Rattle.serialize.proofs.+argument+arguments+arguments_definition+comma_separated+curly_brackets+default_value+directive+directives+each+enum_value+field+field_definition+inline+input_value+list+object+one+optional_braces+serialize_impl+signature+spread+value+variable.Lts-arguments as arguments-lts
 use Rattle.serialize.proofs.arguments_definition.Reads as arguments-definition
 use Rattle.serialize.proofs.arguments_definition.Kinds as arguments-definition-kinds
-use Rattle.serialize.proofs.+argument+arguments+arguments_definition+comma_separated+curly_brackets+default_value+directive+each+enum_value+field+field_definition+inline+input_value+list+object+one+optional_braces+serialize_impl+spread+value+variable.Lts-arguments_definition as arguments-definition-lts
+use Rattle.serialize.proofs.+argument+arguments+arguments_definition+comma_separated+curly_brackets+default_value+directive+directives+each+enum_value+field+field_definition+inline+input_value+list+object+one+optional_braces+serialize_impl+signature+spread+value+variable.Lts-arguments_definition as arguments-definition-lts
 use Rattle.serialize.proofs.comma_separated.Reads as comma-separated
 use Rattle.serialize.proofs.comma_separated.Kinds as comma-separated-kinds
-use Rattle.serialize.proofs.+argument+arguments+arguments_definition+comma_separated+curly_brackets+default_value+directive+each+enum_value+field+field_definition+inline+input_value+list+object+one+optional_braces+serialize_impl+spread+value+variable.Lts-comma_separated as comma-separated-lts
+use Rattle.serialize.proofs.+argument+arguments+arguments_definition+comma_separated+curly_brackets+default_value+directive+directives+each+enum_value+field+field_definition+inline+input_value+list+object+one+optional_braces+serialize_impl+signature+spread+value+variable.Lts-comma_separated as comma-separated-lts
 use Rattle.serialize.proofs.curly_brackets.Reads as curly-brackets
 use Rattle.serialize.proofs.curly_brackets.Kinds as curly-brackets-kinds
-use Rattle.serialize.proofs.+argument+arguments+arguments_definition+comma_separated+curly_brackets+default_value+directive+each+enum_value+field+field_definition+inline+input_value+list+object+one+optional_braces+serialize_impl+spread+value+variable.Lts-curly_brackets as curly-brackets-lts
+use Rattle.serialize.proofs.+argument+arguments+arguments_definition+comma_separated+curly_brackets+default_value+directive+directives+each+enum_value+field+field_definition+inline+input_value+list+object+one+optional_braces+serialize_impl+signature+spread+value+variable.Lts-curly_brackets as curly-brackets-lts
 use Rattle.serialize.proofs.default_value.Reads as default-value
 use Rattle.serialize.proofs.default_value.Kinds as default-value-kinds
-use Rattle.serialize.proofs.+argument+arguments+arguments_definition+comma_separated+curly_brackets+default_value+directive+each+enum_value+field+field_definition+inline+input_value+list+object+one+optional_braces+serialize_impl+spread+value+variable.Lts-default_value as default-value-lts
+use Rattle.serialize.proofs.+argument+arguments+arguments_definition+comma_separated+curly_brackets+default_value+directive+directives+each+enum_value+field+field_definition+inline+input_value+list+object+one+optional_braces+serialize_impl+signature+spread+value+variable.Lts-default_value as default-value-lts
 use Rattle.serialize.proofs.directive.Reads as directive
 use Rattle.serialize.proofs.directive.Kinds as directive-kinds
-use Rattle.serialize.proofs.+argument+arguments+arguments_definition+comma_separated+curly_brackets+default_value+directive+each+enum_value+field+field_definition+inline+input_value+list+object+one+optional_braces+serialize_impl+spread+value+variable.Lts-directive as directive-lts
+use Rattle.serialize.proofs.+argument+arguments+arguments_definition+comma_separated+curly_brackets+default_value+directive+directives+each+enum_value+field+field_definition+inline+input_value+list+object+one+optional_braces+serialize_impl+signature+spread+value+variable.Lts-directive as directive-lts
+use Rattle.serialize.proofs.directives.Reads as directives
+use Rattle.serialize.proofs.directives.Kinds as directives-kinds
+use Rattle.serialize.proofs.+argument+arguments+arguments_definition+comma_separated+curly_brackets+default_value+directive+directives+each+enum_value+field+field_definition+inline+input_value+list+object+one+optional_braces+serialize_impl+signature+spread+value+variable.Lts-directives as directives-lts
 use Rattle.serialize.proofs.each.Reads as each
 use Rattle.serialize.proofs.each.Kinds as each-kinds
-use Rattle.serialize.proofs.+argument+arguments+arguments_definition+comma_separated+curly_brackets+default_value+directive+each+enum_value+field+field_definition+inline+input_value+list+object+one+optional_braces+serialize_impl+spread+value+variable.Lts-each as each-lts
+use Rattle.serialize.proofs.+argument+arguments+arguments_definition+comma_separated+curly_brackets+default_value+directive+directives+each+enum_value+field+field_definition+inline+input_value+list+object+one+optional_braces+serialize_impl+signature+spread+value+variable.Lts-each as each-lts
 use Rattle.serialize.proofs.enum_value.Reads as enum-value
 use Rattle.serialize.proofs.enum_value.Kinds as enum-value-kinds
-use Rattle.serialize.proofs.+argument+arguments+arguments_definition+comma_separated+curly_brackets+default_value+directive+each+enum_value+field+field_definition+inline+input_value+list+object+one+optional_braces+serialize_impl+spread+value+variable.Lts-enum_value as enum-value-lts
+use Rattle.serialize.proofs.+argument+arguments+arguments_definition+comma_separated+curly_brackets+default_value+directive+directives+each+enum_value+field+field_definition+inline+input_value+list+object+one+optional_braces+serialize_impl+signature+spread+value+variable.Lts-enum_value as enum-value-lts
 use Rattle.serialize.proofs.field.Reads as field
 use Rattle.serialize.proofs.field.Kinds as field-kinds
-use Rattle.serialize.proofs.+argument+arguments+arguments_definition+comma_separated+curly_brackets+default_value+directive+each+enum_value+field+field_definition+inline+input_value+list+object+one+optional_braces+serialize_impl+spread+value+variable.Lts-field as field-lts
+use Rattle.serialize.proofs.+argument+arguments+arguments_definition+comma_separated+curly_brackets+default_value+directive+directives+each+enum_value+field+field_definition+inline+input_value+list+object+one+optional_braces+serialize_impl+signature+spread+value+variable.Lts-field as field-lts
 use Rattle.serialize.proofs.field_definition.Reads as field-definition
 use Rattle.serialize.proofs.field_definition.Kinds as field-definition-kinds
-use Rattle.serialize.proofs.+argument+arguments+arguments_definition+comma_separated+curly_brackets+default_value+directive+each+enum_value+field+field_definition+inline+input_value+list+object+one+optional_braces+serialize_impl+spread+value+variable.Lts-field_definition as field-definition-lts
+use Rattle.serialize.proofs.+argument+arguments+arguments_definition+comma_separated+curly_brackets+default_value+directive+directives+each+enum_value+field+field_definition+inline+input_value+list+object+one+optional_braces+serialize_impl+signature+spread+value+variable.Lts-field_definition as field-definition-lts
 use Rattle.serialize.proofs.inline.Reads as inline
 use Rattle.serialize.proofs.inline.Kinds as inline-kinds
-use Rattle.serialize.proofs.+argument+arguments+arguments_definition+comma_separated+curly_brackets+default_value+directive+each+enum_value+field+field_definition+inline+input_value+list+object+one+optional_braces+serialize_impl+spread+value+variable.Lts-inline as inline-lts
+use Rattle.serialize.proofs.+argument+arguments+arguments_definition+comma_separated+curly_brackets+default_value+directive+directives+each+enum_value+field+field_definition+inline+input_value+list+object+one+optional_braces+serialize_impl+signature+spread+value+variable.Lts-inline as inline-lts
 use Rattle.serialize.proofs.input_value.Reads as input-value
 use Rattle.serialize.proofs.input_value.Kinds as input-value-kinds
-use Rattle.serialize.proofs.+argument+arguments+arguments_definition+comma_separated+curly_brackets+default_value+directive+each+enum_value+field+field_definition+inline+input_value+list+object+one+optional_braces+serialize_impl+spread+value+variable.Lts-input_value as input-value-lts
+use Rattle.serialize.proofs.+argument+arguments+arguments_definition+comma_separated+curly_brackets+default_value+directive+directives+each+enum_value+field+field_definition+inline+input_value+list+object+one+optional_braces+serialize_impl+signature+spread+value+variable.Lts-input_value as input-value-lts
 use Rattle.serialize.proofs.list.Reads as list
 use Rattle.serialize.proofs.list.Kinds as list-kinds
-use Rattle.serialize.proofs.+argument+arguments+arguments_definition+comma_separated+curly_brackets+default_value+directive+each+enum_value+field+field_definition+inline+input_value+list+object+one+optional_braces+serialize_impl+spread+value+variable.Lts-list as list-lts
+use Rattle.serialize.proofs.+argument+arguments+arguments_definition+comma_separated+curly_brackets+default_value+directive+directives+each+enum_value+field+field_definition+inline+input_value+list+object+one+optional_braces+serialize_impl+signature+spread+value+variable.Lts-list as list-lts
 use Rattle.serialize.proofs.object.Reads as object
 use Rattle.serialize.proofs.object.Kinds as object-kinds
-use Rattle.serialize.proofs.+argument+arguments+arguments_definition+comma_separated+curly_brackets+default_value+directive+each+enum_value+field+field_definition+inline+input_value+list+object+one+optional_braces+serialize_impl+spread+value+variable.Lts-object as object-lts
+use Rattle.serialize.proofs.+argument+arguments+arguments_definition+comma_separated+curly_brackets+default_value+directive+directives+each+enum_value+field+field_definition+inline+input_value+list+object+one+optional_braces+serialize_impl+signature+spread+value+variable.Lts-object as object-lts
 use Rattle.serialize.proofs.one.Reads as one
 use Rattle.serialize.proofs.one.Kinds as one-kinds
-use Rattle.serialize.proofs.+argument+arguments+arguments_definition+comma_separated+curly_brackets+default_value+directive+each+enum_value+field+field_definition+inline+input_value+list+object+one+optional_braces+serialize_impl+spread+value+variable.Lts-one as one-lts
+use Rattle.serialize.proofs.+argument+arguments+arguments_definition+comma_separated+curly_brackets+default_value+directive+directives+each+enum_value+field+field_definition+inline+input_value+list+object+one+optional_braces+serialize_impl+signature+spread+value+variable.Lts-one as one-lts
 use Rattle.serialize.proofs.optional_braces.Reads as optional-braces
 use Rattle.serialize.proofs.optional_braces.Kinds as optional-braces-kinds
-use Rattle.serialize.proofs.+argument+arguments+arguments_definition+comma_separated+curly_brackets+default_value+directive+each+enum_value+field+field_definition+inline+input_value+list+object+one+optional_braces+serialize_impl+spread+value+variable.Lts-optional_braces as optional-braces-lts
+use Rattle.serialize.proofs.+argument+arguments+arguments_definition+comma_separated+curly_brackets+default_value+directive+directives+each+enum_value+field+field_definition+inline+input_value+list+object+one+optional_braces+serialize_impl+signature+spread+value+variable.Lts-optional_braces as optional-braces-lts
 use Rattle.serialize.proofs.serialize_impl.Reads as serialize-impl
 use Rattle.serialize.proofs.serialize_impl.Kinds as serialize-impl-kinds
-use Rattle.serialize.proofs.+argument+arguments+arguments_definition+comma_separated+curly_brackets+default_value+directive+each+enum_value+field+field_definition+inline+input_value+list+object+one+optional_braces+serialize_impl+spread+value+variable.Lts-serialize_impl as serialize-impl-lts
+use Rattle.serialize.proofs.+argument+arguments+arguments_definition+comma_separated+curly_brackets+default_value+directive+directives+each+enum_value+field+field_definition+inline+input_value+list+object+one+optional_braces+serialize_impl+signature+spread+value+variable.Lts-serialize_impl as serialize-impl-lts
+use Rattle.serialize.proofs.signature.Reads as signature
+use Rattle.serialize.proofs.signature.Kinds as signature-kinds
+use Rattle.serialize.proofs.+argument+arguments+arguments_definition+comma_separated+curly_brackets+default_value+directive+directives+each+enum_value+field+field_definition+inline+input_value+list+object+one+optional_braces+serialize_impl+signature+spread+value+variable.Lts-signature as signature-lts
 use Rattle.serialize.proofs.spread.Reads as spread
 use Rattle.serialize.proofs.spread.Kinds as spread-kinds
-use Rattle.serialize.proofs.+argument+arguments+arguments_definition+comma_separated+curly_brackets+default_value+directive+each+enum_value+field+field_definition+inline+input_value+list+object+one+optional_braces+serialize_impl+spread+value+variable.Lts-spread as spread-lts
+use Rattle.serialize.proofs.+argument+arguments+arguments_definition+comma_separated+curly_brackets+default_value+directive+directives+each+enum_value+field+field_definition+inline+input_value+list+object+one+optional_braces+serialize_impl+signature+spread+value+variable.Lts-spread as spread-lts
 use Rattle.serialize.proofs.value.Reads as value
 use Rattle.serialize.proofs.value.Kinds as value-kinds
-use Rattle.serialize.proofs.+argument+arguments+arguments_definition+comma_separated+curly_brackets+default_value+directive+each+enum_value+field+field_definition+inline+input_value+list+object+one+optional_braces+serialize_impl+spread+value+variable.Lts-value as value-lts
+use Rattle.serialize.proofs.+argument+arguments+arguments_definition+comma_separated+curly_brackets+default_value+directive+directives+each+enum_value+field+field_definition+inline+input_value+list+object+one+optional_braces+serialize_impl+signature+spread+value+variable.Lts-value as value-lts
 use Rattle.serialize.proofs.variable.Reads as variable
 use Rattle.serialize.proofs.variable.Kinds as variable-kinds
-use Rattle.serialize.proofs.+argument+arguments+arguments_definition+comma_separated+curly_brackets+default_value+directive+each+enum_value+field+field_definition+inline+input_value+list+object+one+optional_braces+serialize_impl+spread+value+variable.Lts-variable as variable-lts
+use Rattle.serialize.proofs.+argument+arguments+arguments_definition+comma_separated+curly_brackets+default_value+directive+directives+each+enum_value+field+field_definition+inline+input_value+list+object+one+optional_braces+serialize_impl+signature+spread+value+variable.Lts-variable as variable-lts
 use Rattle.layout.proofs.any_marked.Reads as any-marked-reads
 use Rattle.layout.proofs.deeper.Reads as deeper-reads
 use Rattle.layout.proofs.is_next.Reads as is-next-reads
@@ -110,21 +117,21 @@ use Rattle.leaves.proofs.variable_value.Reads as variable-value-reads
 use Rattle.table.proofs.end.Reads as end-reads
 use Rattle.table.proofs.kind.Reads as kind-reads
 use Rattle.types.proofs.serialize_type.Reads as serialize-type-reads
-use Rattle.serialize.proofs.+argument+arguments+arguments_definition+comma_separated+curly_brackets+default_value+directive+each+enum_value+field+field_definition+inline+input_value+list+object+one+optional_braces+serialize_impl+spread+value+variable.{
+use Rattle.serialize.proofs.+argument+arguments+arguments_definition+comma_separated+curly_brackets+default_value+directive+directives+each+enum_value+field+field_definition+inline+input_value+list+object+one+optional_braces+serialize_impl+signature+spread+value+variable.{
   statement,
 }
-use Rattle.serialize.proofs.+argument+arguments+arguments_definition+comma_separated+curly_brackets+default_value+directive+each+enum_value+field+field_definition+inline+input_value+list+object+one+optional_braces+serialize_impl+spread+value+variable.Tie.{
+use Rattle.serialize.proofs.+argument+arguments+arguments_definition+comma_separated+curly_brackets+default_value+directive+directives+each+enum_value+field+field_definition+inline+input_value+list+object+one+optional_braces+serialize_impl+signature+spread+value+variable.Tie.{
   close,
 }
 
 abbrev μ-argument : Measures 5 argument-kinds.ps ℕ
-μ-argument κs a = 8 * (a .1 .1 .1 .1 .1 .0) + 5
+μ-argument κs a = 8 * (a .1 .1 .1 .1 .1 .0) + 6
 
 abbrev μ-arguments : Measures 5 arguments-kinds.ps ℕ
 μ-arguments κs a = 8 * (a .1 .1 .1 .1 .1 .0) + 4
 
 abbrev μ-arguments-definition : Measures 5 arguments-definition-kinds.ps ℕ
-μ-arguments-definition κs a = 8 * (a .1 .1 .1 .1 .0) + 4
+μ-arguments-definition κs a = 8 * (a .1 .1 .1 .1 .0) + 5
 
 abbrev μ-comma-separated : Measures 7 comma-separated-kinds.ps ℕ
 μ-comma-separated κs a = 8 * (a .1 .1 .1 .1 .1 .1 .1 .0) + 3
@@ -136,25 +143,28 @@ abbrev μ-default-value : Measures 5 default-value-kinds.ps ℕ
 μ-default-value κs a = 8 * (a .1 .1 .1 .1 .0) + 2
 
 abbrev μ-directive : Measures 5 directive-kinds.ps ℕ
-μ-directive κs a = 8 * (a .1 .1 .1 .1 .1 .0) + 5
+μ-directive κs a = 8 * (a .1 .1 .1 .1 .1 .0) + 6
+
+abbrev μ-directives : Measures 5 directives-kinds.ps ℕ
+μ-directives κs a = 8 * (a .1 .1 .1 .1 .0) + 3
 
 abbrev μ-each : Measures 5 each-kinds.ps ℕ
 μ-each κs a = 8 * (a .1 .1 .1 .1 .1 .1 .0) + 2
 
 abbrev μ-enum-value : Measures 5 enum-value-kinds.ps ℕ
-μ-enum-value κs a = 8 * (a .1 .1 .1 .1 .1 .0) + 5
+μ-enum-value κs a = 8 * (a .1 .1 .1 .1 .1 .0) + 6
 
 abbrev μ-field : Measures 5 field-kinds.ps ℕ
-μ-field κs a = 8 * (a .1 .1 .1 .1 .1 .0) + 5
+μ-field κs a = 8 * (a .1 .1 .1 .1 .1 .0) + 6
 
 abbrev μ-field-definition : Measures 5 field-definition-kinds.ps ℕ
-μ-field-definition κs a = 8 * (a .1 .1 .1 .1 .1 .0) + 5
+μ-field-definition κs a = 8 * (a .1 .1 .1 .1 .1 .0) + 6
 
 abbrev μ-inline : Measures 5 inline-kinds.ps ℕ
-μ-inline κs a = 8 * (a .1 .1 .1 .1 .1 .0) + 5
+μ-inline κs a = 8 * (a .1 .1 .1 .1 .1 .0) + 6
 
 abbrev μ-input-value : Measures 5 input-value-kinds.ps ℕ
-μ-input-value κs a = 8 * (a .1 .1 .1 .1 .1 .0) + 5
+μ-input-value κs a = 8 * (a .1 .1 .1 .1 .1 .0) + 6
 
 abbrev μ-list : Measures 5 list-kinds.ps ℕ
 μ-list κs a = 8 * (a .1 .1 .1 .1 .0) + 4
@@ -171,14 +181,17 @@ abbrev μ-optional-braces : Measures 5 optional-braces-kinds.ps ℕ
 abbrev μ-serialize-impl : Measures 5 serialize-impl-kinds.ps ℕ
 μ-serialize-impl κs a = 8 * (a .1 .1 .1 .1 .0) + 0
 
+abbrev μ-signature : Measures 5 signature-kinds.ps ℕ
+μ-signature κs a = 8 * (a .1 .1 .1 .1 .0) + 4
+
 abbrev μ-spread : Measures 5 spread-kinds.ps ℕ
-μ-spread κs a = 8 * (a .1 .1 .1 .1 .1 .0) + 5
+μ-spread κs a = 8 * (a .1 .1 .1 .1 .1 .0) + 6
 
 abbrev μ-value : Measures 5 value-kinds.ps ℕ
-μ-value κs a = 8 * (a .1 .1 .1 .1 .1 .1 .0) + 5
+μ-value κs a = 8 * (a .1 .1 .1 .1 .1 .1 .0) + 6
 
 abbrev μ-variable : Measures 5 variable-kinds.ps ℕ
-μ-variable κs a = 8 * (a .1 .1 .1 .1 .1 .0) + 5
+μ-variable κs a = 8 * (a .1 .1 .1 .1 .1 .0) + 6
 
 abbrev argument-at : ℕ → In 5 argument-kinds.ps
 argument-at t = and 5 argument-kinds.ps (is 5 argument-kinds.ps μ-argument t) argument.Pre
@@ -260,6 +273,14 @@ directive-at t = and 5 directive-kinds.ps (is 5 directive-kinds.ps μ-directive 
 abbrev directive-below : ℕ → In 5 directive-kinds.ps
 directive-below t =
     and 5 directive-kinds.ps (falls 5 directive-kinds.ps _<_ μ-directive t) directive.Pre
+
+abbrev directives-at : ℕ → In 5 directives-kinds.ps
+directives-at t =
+    and 5 directives-kinds.ps (is 5 directives-kinds.ps μ-directives t) directives.Pre
+
+abbrev directives-below : ℕ → In 5 directives-kinds.ps
+directives-below t =
+    and 5 directives-kinds.ps (falls 5 directives-kinds.ps _<_ μ-directives t) directives.Pre
 
 abbrev each-at : ℕ → In 5 each-kinds.ps
 each-at t = and 5 each-kinds.ps (is 5 each-kinds.ps μ-each t) each.Pre
@@ -361,6 +382,13 @@ serialize-impl-below t =
     (falls 5 serialize-impl-kinds.ps _<_ μ-serialize-impl t)
     serialize-impl.Pre
 
+abbrev signature-at : ℕ → In 5 signature-kinds.ps
+signature-at t = and 5 signature-kinds.ps (is 5 signature-kinds.ps μ-signature t) signature.Pre
+
+abbrev signature-below : ℕ → In 5 signature-kinds.ps
+signature-below t =
+    and 5 signature-kinds.ps (falls 5 signature-kinds.ps _<_ μ-signature t) signature.Pre
+
 abbrev spread-at : ℕ → In 5 spread-kinds.ps
 spread-at t = and 5 spread-kinds.ps (is 5 spread-kinds.ps μ-spread t) spread.Pre
 
@@ -387,7 +415,7 @@ abbrev claims-arguments : ℕ → arguments-lts.Claims
 claims-arguments t = (is-next-reads.Asked, is-next-reads.Learnt, on-single-line-reads.Asked, on-single-line-reads.Learnt, comma-separated-below t, comma-separated.Post)
 
 abbrev claims-arguments-definition : ℕ → arguments-definition-lts.Claims
-claims-arguments-definition t = (is-next-reads.Asked, is-next-reads.Learnt, any-marked-reads.Asked, any-marked-reads.Learnt, single-line-unless-reads.Asked, single-line-unless-reads.Learnt, comma-separated-below t, comma-separated.Post)
+claims-arguments-definition t = (is-next-reads.Asked, is-next-reads.Learnt, signature-below t, signature.Post)
 
 abbrev claims-comma-separated : ℕ → comma-separated-lts.Claims
 claims-comma-separated t = (token-reads.Asked, token-reads.Learnt, is-next-reads.Asked, is-next-reads.Learnt, deeper-reads.Asked, deeper-reads.Learnt, new-line-reads.Asked, new-line-reads.Learnt, one-below t, one.Post, each-below t, each.Post, trailing-comma-reads.Asked, trailing-comma-reads.Learnt)
@@ -401,23 +429,26 @@ claims-default-value t = (is-next-reads.Asked, is-next-reads.Learnt, token-reads
 abbrev claims-directive : ℕ → directive-lts.Claims
 claims-directive t = (token-reads.Asked, token-reads.Learnt, name-reads.Asked, name-reads.Learnt, arguments-below t, arguments.Post)
 
+abbrev claims-directives : ℕ → directives-lts.Claims
+claims-directives t = (is-next-reads.Asked, is-next-reads.Learnt, each-below t, each.Post)
+
 abbrev claims-each : ℕ → each-lts.Claims
 claims-each t = (is-next-reads.Asked, is-next-reads.Learnt, write-gap-reads.Asked, write-gap-reads.Learnt, one-below t, one.Post)
 
 abbrev claims-enum-value : ℕ → enum-value-lts.Claims
-claims-enum-value t = (serialize-description-reads.Asked, serialize-description-reads.Learnt, name-reads.Asked, name-reads.Learnt, each-below t, each.Post)
+claims-enum-value t = (serialize-description-reads.Asked, serialize-description-reads.Learnt, name-reads.Asked, name-reads.Learnt, directives-below t, directives.Post)
 
 abbrev claims-field : ℕ → field-lts.Claims
-claims-field t = (alias-reads.Asked, alias-reads.Learnt, name-reads.Asked, name-reads.Learnt, arguments-below t, arguments.Post, each-below t, each.Post, optional-braces-below t, optional-braces.Post)
+claims-field t = (alias-reads.Asked, alias-reads.Learnt, name-reads.Asked, name-reads.Learnt, arguments-below t, arguments.Post, directives-below t, directives.Post, optional-braces-below t, optional-braces.Post)
 
 abbrev claims-field-definition : ℕ → field-definition-lts.Claims
-claims-field-definition t = (serialize-description-reads.Asked, serialize-description-reads.Learnt, name-reads.Asked, name-reads.Learnt, arguments-definition-below t, arguments-definition.Post, token-reads.Asked, token-reads.Learnt, one-below t, one.Post, each-below t, each.Post)
+claims-field-definition t = (serialize-description-reads.Asked, serialize-description-reads.Learnt, name-reads.Asked, name-reads.Learnt, arguments-definition-below t, arguments-definition.Post, token-reads.Asked, token-reads.Learnt, one-below t, one.Post, directives-below t, directives.Post)
 
 abbrev claims-inline : ℕ → inline-lts.Claims
-claims-inline t = (token-reads.Asked, token-reads.Learnt, if-named-reads.Asked, if-named-reads.Learnt, each-below t, each.Post, curly-brackets-below t, curly-brackets.Post)
+claims-inline t = (token-reads.Asked, token-reads.Learnt, if-named-reads.Asked, if-named-reads.Learnt, directives-below t, directives.Post, curly-brackets-below t, curly-brackets.Post)
 
 abbrev claims-input-value : ℕ → input-value-lts.Claims
-claims-input-value t = (serialize-description-reads.Asked, serialize-description-reads.Learnt, name-reads.Asked, name-reads.Learnt, token-reads.Asked, token-reads.Learnt, one-below t, one.Post, default-value-below t, default-value.Post, each-below t, each.Post)
+claims-input-value t = (serialize-description-reads.Asked, serialize-description-reads.Learnt, name-reads.Asked, name-reads.Learnt, token-reads.Asked, token-reads.Learnt, one-below t, one.Post, default-value-below t, default-value.Post, directives-below t, directives.Post)
 
 abbrev claims-list : ℕ → list-lts.Claims
 claims-list t = (comma-separated-below t, comma-separated.Post)
@@ -434,14 +465,17 @@ claims-optional-braces t = (is-next-reads.Asked, is-next-reads.Learnt, token-rea
 abbrev claims-serialize-impl : ℕ → serialize-impl-lts.Claims
 claims-serialize-impl t = (kind-reads.Asked, kind-reads.Learnt, end-reads.Asked, end-reads.Learnt, string-value-reads.Asked, string-value-reads.Learnt, directive-below t, directive.Post, argument-below t, argument.Post, variable-below t, variable.Post, input-value-below t, input-value.Post, field-definition-below t, field-definition.Post, enum-value-below t, enum-value.Post, root-operation-reads.Asked, root-operation-reads.Learnt, name-reads.Asked, name-reads.Learnt, location-reads.Asked, location-reads.Learnt, field-below t, field.Post, spread-below t, spread.Post, inline-below t, inline.Post, serialize-type-reads.Asked, serialize-type-reads.Learnt, value-below t, value.Post)
 
+abbrev claims-signature : ℕ → signature-lts.Claims
+claims-signature t = (any-marked-reads.Asked, any-marked-reads.Learnt, single-line-unless-reads.Asked, single-line-unless-reads.Learnt, comma-separated-below t, comma-separated.Post)
+
 abbrev claims-spread : ℕ → spread-lts.Claims
-claims-spread t = (token-reads.Asked, token-reads.Learnt, name-reads.Asked, name-reads.Learnt, each-below t, each.Post)
+claims-spread t = (token-reads.Asked, token-reads.Learnt, name-reads.Asked, name-reads.Learnt, directives-below t, directives.Post)
 
 abbrev claims-value : ℕ → value-lts.Claims
 claims-value t = (token-reads.Asked, token-reads.Learnt, boolean-reads.Asked, boolean-reads.Learnt, name-reads.Asked, name-reads.Learnt, string-value-reads.Asked, string-value-reads.Learnt, variable-value-reads.Asked, variable-value-reads.Learnt, list-below t, list.Post, object-below t, object.Post)
 
 abbrev claims-variable : ℕ → variable-lts.Claims
-claims-variable t = (token-reads.Asked, token-reads.Learnt, name-reads.Asked, name-reads.Learnt, one-below t, one.Post, default-value-below t, default-value.Post, each-below t, each.Post)
+claims-variable t = (token-reads.Asked, token-reads.Learnt, name-reads.Asked, name-reads.Learnt, one-below t, one.Post, default-value-below t, default-value.Post, directives-below t, directives.Post)
 
 argument-name-requires : (t : ℕ) → argument-lts.Need-name-requires (claims-argument t) (argument-at t) argument.Post
 argument-name-requires t c κs = (c .before .before .before .before .before .pre) .1 .text
@@ -503,81 +537,25 @@ arguments-returns-2 : (t : ℕ) → arguments-lts.Need-returns-2 (claims-argumen
 arguments-returns-2 t c = λ n. no-child (commaSeparated singleLine (ascii "(") (ascii ")") (ofKind _) ∷ []) (rest-ranged ((c .before .before .before .before .before .before .pre) .1 .rest)) _ refl (sym ((c .before .is-next) .ensures) ∙ (c .if1) .left) (kept-none (record { place = omega arith; size = omega arith }))
 
 arguments-definition-is-next-requires : (t : ℕ) → arguments-definition-lts.Need-is-next-requires (claims-arguments-definition t) (arguments-definition-at t) arguments-definition.Post
-arguments-definition-is-next-requires t c κs = rest-within ((c .before .before .before .before .before .pre) .1 .rest)
+arguments-definition-is-next-requires t c κs = rest-within ((c .before .before .before .before .pre) .1 .rest)
 
-arguments-definition-any-marked-requires :
-    (t : ℕ) → arguments-definition-lts.Need-any-marked-requires (
+arguments-definition-signature-requires :
+    (t : ℕ) → arguments-definition-lts.Need-signature-requires (
       is-next-reads.Asked,
       is-next-reads.Learnt,
-      any-marked-reads.Asked,
-      any-marked-reads.Learnt,
-      single-line-unless-reads.Asked,
-      single-line-unless-reads.Learnt,
-      comma-separated-below t,
-      comma-separated.Post,
+      signature-below t,
+      signature.Post,
     ) (arguments-definition-at t) arguments-definition.Post
-arguments-definition-any-marked-requires t c κs = rest-ranged ((c .before .before .before .before .before .before .before .pre) .1 .rest)
-
-arguments-definition-single-line-unless-requires :
-    (t : ℕ) → arguments-definition-lts.Need-single-line-unless-requires (
-      is-next-reads.Asked,
-      is-next-reads.Learnt,
-      any-marked-reads.Asked,
-      any-marked-reads.Learnt,
-      single-line-unless-reads.Asked,
-      single-line-unless-reads.Learnt,
-      comma-separated-below t,
-      comma-separated.Post,
-    ) (arguments-definition-at t) arguments-definition.Post
-arguments-definition-single-line-unless-requires t c κs = tt
-
-arguments-definition-slice-aggregate-comma-separated :
-    (t : ℕ) → arguments-definition-lts.Need-slice-aggregate-comma-separated (
-      is-next-reads.Asked,
-      is-next-reads.Learnt,
-      any-marked-reads.Asked,
-      any-marked-reads.Learnt,
-      single-line-unless-reads.Asked,
-      single-line-unless-reads.Learnt,
-      comma-separated-below t,
-      comma-separated.Post,
-    ) (arguments-definition-at t) arguments-definition.Post
-arguments-definition-slice-aggregate-comma-separated t c = refl
-
-arguments-definition-slice-aggregate-comma-separated-2 :
-    (t : ℕ) → arguments-definition-lts.Need-slice-aggregate-comma-separated-2 (
-      is-next-reads.Asked,
-      is-next-reads.Learnt,
-      any-marked-reads.Asked,
-      any-marked-reads.Learnt,
-      single-line-unless-reads.Asked,
-      single-line-unless-reads.Learnt,
-      comma-separated-below t,
-      comma-separated.Post,
-    ) (arguments-definition-at t) arguments-definition.Post
-arguments-definition-slice-aggregate-comma-separated-2 t c = refl
-
-arguments-definition-comma-separated-requires :
-    (t : ℕ) → arguments-definition-lts.Need-comma-separated-requires (
-      is-next-reads.Asked,
-      is-next-reads.Learnt,
-      any-marked-reads.Asked,
-      any-marked-reads.Learnt,
-      single-line-unless-reads.Asked,
-      single-line-unless-reads.Learnt,
-      comma-separated-below t,
-      comma-separated.Post,
-    ) (arguments-definition-at t) arguments-definition.Post
-arguments-definition-comma-separated-requires t c κs = (omega (arith, (c .before .before .before .before .before .before .before .before .before .before .before .before .pre) .0), jobs-lines ((c .before .before .before .before .before .before .before .before .before .before .before .before .args) .state) ((c .before .before .before .before .any-marked) .result) ((c .before .before .before .before .before .before .before .before .before .before .before .before .pre) .1) ((c .before .before .before .single-line-unless) .ensures))
+arguments-definition-signature-requires t c κs = (omega (arith, (c .before .before .before .before .before .before .before .pre) .0), (c .before .before .before .before .before .before .before .pre) .1)
 
 arguments-definition-returns : (t : ℕ) → arguments-definition-lts.Need-returns (claims-arguments-definition t) (arguments-definition-at t) arguments-definition.Post
-arguments-definition-returns t c = λ n. a-child _ (rest-ranged ((c .before .before .before .before .before .before .before .before .before .before .before .before .before .before .before .pre) .1 .rest)) (ofKind 22) (sym ((c .before .before .before .before .before .before .before .before .before .is-next) .ensures) ∙ (c .before .before .before .before .before .before .before .before .if1) .taken) (did-lines (ofKind 22) _ ((c .before .before .before .before .before .before .before .any-marked) .ensures) ((c .before .before .before .before .before .before .single-line-unless) .ensures _) ((c .before .before .comma-separated) .ensures))
+arguments-definition-returns t c = λ n. a-child _ (rest-ranged ((c .before .before .before .before .before .before .before .before .before .before .pre) .1 .rest)) (ofKind 22) (sym ((c .before .before .before .before .before .is-next) .ensures) ∙ (c .before .before .before .before .if1) .taken) ((c .before .before .signature) .ensures n)
 
 arguments-definition-same-length : (t : ℕ) → arguments-definition-lts.Need-same-length (claims-arguments-definition t) (arguments-definition-at t) arguments-definition.Post
 arguments-definition-same-length t c = wrote-length (arguments-definition-returns t c 0 .walked .wrote)
 
 arguments-definition-returns-2 : (t : ℕ) → arguments-definition-lts.Need-returns-2 (claims-arguments-definition t) (arguments-definition-at t) arguments-definition.Post
-arguments-definition-returns-2 t c = λ n. no-child (commaSeparated singleLineUnlessMarked (ascii "(") (ascii ")") (ofKind 22) ∷ []) (rest-ranged ((c .before .before .before .before .before .before .before .pre) .1 .rest)) (ofKind 22) refl (sym ((c .before .is-next) .ensures) ∙ (c .if1) .left) (kept-none (record { place = omega arith; size = omega arith }))
+arguments-definition-returns-2 t c = λ n. no-child (commaSeparated singleLineUnlessMarked (ascii "(") (ascii ")") (ofKind 22) ∷ []) (rest-ranged ((c .before .before .before .before .before .before .pre) .1 .rest)) (ofKind 22) refl (sym ((c .before .is-next) .ensures) ∙ (c .if1) .left) (kept-none (record { place = omega arith; size = omega arith }))
 
 comma-separated-token-requires : (t : ℕ) → comma-separated-lts.Need-token-requires (claims-comma-separated t) (comma-separated-at t) comma-separated.Post
 comma-separated-token-requires t c κs = tt
@@ -731,6 +709,21 @@ directive-returns t c = did-tokens (token "@") refl ((c .before .before .before 
 directive-same-length : (t : ℕ) → directive-lts.Need-same-length (claims-directive t) (directive-at t) directive.Post
 directive-same-length t c = wrote-length (directive-returns t c .walked .wrote)
 
+directives-is-next-requires : (t : ℕ) → directives-lts.Need-is-next-requires (claims-directives t) (directives-at t) directives.Post
+directives-is-next-requires t c κs = rest-within ((c .before .before .before .before .pre) .1 .rest)
+
+directives-each-requires : (t : ℕ) → directives-lts.Need-each-requires (claims-directives t) (directives-at t) directives.Post
+directives-each-requires t c κs = (omega (arith, (c .before .before .before .before .before .before .before .pre) .0), (c .before .before .before .before .before .before .before .pre) .1)
+
+directives-returns : (t : ℕ) → directives-lts.Need-returns (claims-directives t) (directives-at t) directives.Post
+directives-returns t c = (c .before .before .each) .ensures
+
+directives-same-length : (t : ℕ) → directives-lts.Need-same-length (claims-directives t) (directives-at t) directives.Post
+directives-same-length t c = wrote-length (directives-returns t c .wrote)
+
+directives-returns-2 : (t : ℕ) → directives-lts.Need-returns-2 (claims-directives t) (directives-at t) directives.Post
+directives-returns-2 t c = nothing-said _ _ _ ((c .before .before .before .before .before .before .pre) .1 .rest) (sym ((c .before .is-next) .ensures) ∙ (c .if1) .left) (kept-none (record { place = omega arith; size = omega arith }))
+
 abbrev each-Inv-loop : each-lts.InvT-loop
 each-Inv-loop words pool table class gap to depth prefix state out₀ w₀ out w = Run table words pool (under state prefix) (gapText gap (under state prefix)) (meant class) (to .0) depth (state .level) out₀ w₀ out w
 
@@ -767,20 +760,20 @@ enum-value-serialize-description-requires :
       serialize-description-reads.Learnt,
       name-reads.Asked,
       name-reads.Learnt,
-      each-below t,
-      each.Post,
+      directives-below t,
+      directives.Post,
     ) (enum-value-at t) enum-value.Post
 enum-value-serialize-description-requires t c κs = (rest-ranged ((c .before .before .before .before .before .pre) .1 .jobs .rest), (c .before .before .before .before .before .pre) .1 .jobs .table)
 
 enum-value-name-requires : (t : ℕ) → enum-value-lts.Need-name-requires (claims-enum-value t) (enum-value-at t) enum-value.Post
 enum-value-name-requires t c κs = (c .before .before .before .before .before .before .before .before .before .pre) .1 .text
 
-enum-value-each-requires : (t : ℕ) → enum-value-lts.Need-each-requires (claims-enum-value t) (enum-value-at t) enum-value.Post
-enum-value-each-requires t c κs = (omega (arith, (c .before .before .before .before .before .before .before .before .before .before .before .before .before .pre) .0), here (jobs-kept (jobs-walked ((c .before .before .before .before .before .before .before .before .before .before .before .before .before .pre) .1 .jobs) ((c .before .before .before .before .before .before .before .serialize-description) .ensures 0 .walked)) ((c .before .before .before .name) .ensures)))
+enum-value-directives-requires : (t : ℕ) → enum-value-lts.Need-directives-requires (claims-enum-value t) (enum-value-at t) enum-value.Post
+enum-value-directives-requires t c κs = (omega (arith, (c .before .before .before .before .before .before .before .before .before .before .before .before .before .pre) .0), here (jobs-kept (jobs-walked ((c .before .before .before .before .before .before .before .before .before .before .before .before .before .pre) .1 .jobs) ((c .before .before .before .before .before .before .before .serialize-description) .ensures 0 .walked)) ((c .before .before .before .name) .ensures)))
 
 enum-value-returns : (t : ℕ) → enum-value-lts.Need-returns (claims-enum-value t) (enum-value-at t) enum-value.Post
 unfolding ruleOf
-enum-value-returns t c = (c .before .before .before .before .before .before .before .before .before .before .serialize-description) .ensures _ ⨾ did-name ((c .before .before .before .before .before .before .name) .ensures) ⨾ did-spaced _ ((c .before .before .each) .ensures)
+enum-value-returns t c = (c .before .before .before .before .before .before .before .before .before .before .serialize-description) .ensures _ ⨾ did-name ((c .before .before .before .before .before .before .name) .ensures) ⨾ did-spaced _ ((c .before .before .directives) .ensures)
 
 enum-value-same-length : (t : ℕ) → enum-value-lts.Need-same-length (claims-enum-value t) (enum-value-at t) enum-value.Post
 enum-value-same-length t c = wrote-length (enum-value-returns t c .walked .wrote)
@@ -794,15 +787,15 @@ field-name-requires t c κs = (c .before .before .before .before .before .before
 field-arguments-requires : (t : ℕ) → field-lts.Need-arguments-requires (claims-field t) (field-at t) field.Post
 field-arguments-requires t c κs = (omega (arith, (c .before .before .before .before .before .before .before .before .before .before .before .before .before .pre) .0), jobs-kept (jobs-walked ((c .before .before .before .before .before .before .before .before .before .before .before .before .before .pre) .1 .jobs) ((c .before .before .before .before .before .before .before .alias) .ensures defaultSettings 0 .walked)) ((c .before .before .before .name) .ensures))
 
-field-each-requires : (t : ℕ) → field-lts.Need-each-requires (claims-field t) (field-at t) field.Post
-field-each-requires t c κs = (omega (arith, (c .before .before .before .before .before .before .before .before .before .before .before .before .before .before .before .before .before .pre) .0), here (jobs-walked (jobs-kept (jobs-walked ((c .before .before .before .before .before .before .before .before .before .before .before .before .before .before .before .before .before .pre) .1 .jobs) ((c .before .before .before .before .before .before .before .before .before .before .before .alias) .ensures defaultSettings 0 .walked)) ((c .before .before .before .before .before .before .before .name) .ensures)) ((c .before .before .before .arguments) .ensures 0 .walked)))
+field-directives-requires : (t : ℕ) → field-lts.Need-directives-requires (claims-field t) (field-at t) field.Post
+field-directives-requires t c κs = (omega (arith, (c .before .before .before .before .before .before .before .before .before .before .before .before .before .before .before .before .before .pre) .0), here (jobs-walked (jobs-kept (jobs-walked ((c .before .before .before .before .before .before .before .before .before .before .before .before .before .before .before .before .before .pre) .1 .jobs) ((c .before .before .before .before .before .before .before .before .before .before .before .alias) .ensures defaultSettings 0 .walked)) ((c .before .before .before .before .before .before .before .name) .ensures)) ((c .before .before .before .arguments) .ensures 0 .walked)))
 
 field-optional-braces-requires : (t : ℕ) → field-lts.Need-optional-braces-requires (claims-field t) (field-at t) field.Post
-field-optional-braces-requires t c κs = (omega (arith, (c .before .before .before .before .before .before .before .before .before .before .before .before .before .before .before .before .before .before .before .before .before .pre) .0), jobs-walked (jobs-walked (jobs-kept (jobs-walked ((c .before .before .before .before .before .before .before .before .before .before .before .before .before .before .before .before .before .before .before .before .before .pre) .1 .jobs) ((c .before .before .before .before .before .before .before .before .before .before .before .before .before .before .before .alias) .ensures defaultSettings 0 .walked)) ((c .before .before .before .before .before .before .before .before .before .before .before .name) .ensures)) ((c .before .before .before .before .before .before .before .arguments) .ensures 0 .walked)) ((c .before .before .before .each) .ensures))
+field-optional-braces-requires t c κs = (omega (arith, (c .before .before .before .before .before .before .before .before .before .before .before .before .before .before .before .before .before .before .before .before .before .pre) .0), jobs-walked (jobs-walked (jobs-kept (jobs-walked ((c .before .before .before .before .before .before .before .before .before .before .before .before .before .before .before .before .before .before .before .before .before .pre) .1 .jobs) ((c .before .before .before .before .before .before .before .before .before .before .before .before .before .before .before .alias) .ensures defaultSettings 0 .walked)) ((c .before .before .before .before .before .before .before .before .before .before .before .name) .ensures)) ((c .before .before .before .before .before .before .before .arguments) .ensures 0 .walked)) ((c .before .before .before .directives) .ensures))
 
 field-returns : (t : ℕ) → field-lts.Need-returns (claims-field t) (field-at t) field.Post
 unfolding ruleOf
-field-returns t c = (c .before .before .before .before .before .before .before .before .before .before .before .before .before .before .before .before .before .before .alias) .ensures _ _ ⨾ did-name ((c .before .before .before .before .before .before .before .before .before .before .before .before .before .before .name) .ensures) ⨾ (c .before .before .before .before .before .before .before .before .before .before .arguments) .ensures _ ⨾ did-spaced _ ((c .before .before .before .before .before .before .each) .ensures) ⨾ (c .before .before .optional-braces) .ensures _
+field-returns t c = (c .before .before .before .before .before .before .before .before .before .before .before .before .before .before .before .before .before .before .alias) .ensures _ _ ⨾ did-name ((c .before .before .before .before .before .before .before .before .before .before .before .before .before .before .name) .ensures) ⨾ (c .before .before .before .before .before .before .before .before .before .before .arguments) .ensures _ ⨾ did-spaced _ ((c .before .before .before .before .before .before .directives) .ensures) ⨾ (c .before .before .optional-braces) .ensures _
 
 field-same-length : (t : ℕ) → field-lts.Need-same-length (claims-field t) (field-at t) field.Post
 field-same-length t c = wrote-length (field-returns t c .walked .wrote)
@@ -819,8 +812,8 @@ field-definition-serialize-description-requires :
       token-reads.Learnt,
       one-below t,
       one.Post,
-      each-below t,
-      each.Post,
+      directives-below t,
+      directives.Post,
     ) (field-definition-at t) field-definition.Post
 field-definition-serialize-description-requires t c κs = (rest-ranged ((c .before .before .before .before .before .pre) .1 .jobs .rest), (c .before .before .before .before .before .pre) .1 .jobs .table)
 
@@ -839,8 +832,8 @@ field-definition-arguments-definition-requires :
       token-reads.Learnt,
       one-below t,
       one.Post,
-      each-below t,
-      each.Post,
+      directives-below t,
+      directives.Post,
     ) (field-definition-at t) field-definition.Post
 field-definition-arguments-definition-requires t c κs = (omega (arith, (c .before .before .before .before .before .before .before .before .before .before .before .before .before .pre) .0), jobs-kept (jobs-walked ((c .before .before .before .before .before .before .before .before .before .before .before .before .before .pre) .1 .jobs) ((c .before .before .before .before .before .before .before .serialize-description) .ensures 0 .walked)) ((c .before .before .before .name) .ensures))
 
@@ -853,12 +846,12 @@ field-definition-token-requires t c κs = tt
 field-definition-one-requires : (t : ℕ) → field-definition-lts.Need-one-requires (claims-field-definition t) (field-definition-at t) field-definition.Post
 field-definition-one-requires t c κs = (omega (arith, (c .before .before .before .before .before .before .before .before .before .before .before .before .before .before .before .before .before .before .before .before .before .before .pre) .0), here (jobs-kept (jobs-walked (jobs-kept (jobs-walked ((c .before .before .before .before .before .before .before .before .before .before .before .before .before .before .before .before .before .before .before .before .before .before .pre) .1 .jobs) ((c .before .before .before .before .before .before .before .before .before .before .before .before .before .before .before .before .serialize-description) .ensures 0 .walked)) ((c .before .before .before .before .before .before .before .before .before .before .before .before .name) .ensures)) ((c .before .before .before .before .before .before .before .before .arguments-definition) .ensures 0 .walked)) ((c .before .before .before .token) .ensures)))
 
-field-definition-each-requires : (t : ℕ) → field-definition-lts.Need-each-requires (claims-field-definition t) (field-definition-at t) field-definition.Post
-field-definition-each-requires t c κs = (omega (arith, (c .before .before .before .before .before .before .before .before .before .before .before .before .before .before .before .before .before .before .before .before .before .before .before .before .before .before .pre) .0), here (jobs-walked (jobs-kept (jobs-walked (jobs-kept (jobs-walked ((c .before .before .before .before .before .before .before .before .before .before .before .before .before .before .before .before .before .before .before .before .before .before .before .before .before .before .pre) .1 .jobs) ((c .before .before .before .before .before .before .before .before .before .before .before .before .before .before .before .before .before .before .before .before .serialize-description) .ensures 0 .walked)) ((c .before .before .before .before .before .before .before .before .before .before .before .before .before .before .before .before .name) .ensures)) ((c .before .before .before .before .before .before .before .before .before .before .before .before .arguments-definition) .ensures 0 .walked)) ((c .before .before .before .before .before .before .before .token) .ensures)) ((c .before .before .before .one) .ensures)))
+field-definition-directives-requires : (t : ℕ) → field-definition-lts.Need-directives-requires (claims-field-definition t) (field-definition-at t) field-definition.Post
+field-definition-directives-requires t c κs = (omega (arith, (c .before .before .before .before .before .before .before .before .before .before .before .before .before .before .before .before .before .before .before .before .before .before .before .before .before .before .pre) .0), here (jobs-walked (jobs-kept (jobs-walked (jobs-kept (jobs-walked ((c .before .before .before .before .before .before .before .before .before .before .before .before .before .before .before .before .before .before .before .before .before .before .before .before .before .before .pre) .1 .jobs) ((c .before .before .before .before .before .before .before .before .before .before .before .before .before .before .before .before .before .before .before .before .serialize-description) .ensures 0 .walked)) ((c .before .before .before .before .before .before .before .before .before .before .before .before .before .before .before .before .name) .ensures)) ((c .before .before .before .before .before .before .before .before .before .before .before .before .arguments-definition) .ensures 0 .walked)) ((c .before .before .before .before .before .before .before .token) .ensures)) ((c .before .before .before .one) .ensures)))
 
 field-definition-returns : (t : ℕ) → field-definition-lts.Need-returns (claims-field-definition t) (field-definition-at t) field-definition.Post
 unfolding ruleOf
-field-definition-returns t c = (c .before .before .before .before .before .before .before .before .before .before .before .before .before .before .before .before .before .before .before .before .before .before .before .serialize-description) .ensures _ ⨾ did-name ((c .before .before .before .before .before .before .before .before .before .before .before .before .before .before .before .before .before .before .before .name) .ensures) ⨾ (c .before .before .before .before .before .before .before .before .before .before .before .before .before .before .before .arguments-definition) .ensures _ ⨾ did-tokens (token ":" ++ sp) refl ((c .before .before .before .before .before .before .before .before .before .before .token) .ensures) ⨾ did-one type ((c .before .before .before .before .before .before .one) .ensures) ⨾ did-spaced _ ((c .before .before .each) .ensures)
+field-definition-returns t c = (c .before .before .before .before .before .before .before .before .before .before .before .before .before .before .before .before .before .before .before .before .before .before .before .serialize-description) .ensures _ ⨾ did-name ((c .before .before .before .before .before .before .before .before .before .before .before .before .before .before .before .before .before .before .before .name) .ensures) ⨾ (c .before .before .before .before .before .before .before .before .before .before .before .before .before .before .before .arguments-definition) .ensures _ ⨾ did-tokens (token ":" ++ sp) refl ((c .before .before .before .before .before .before .before .before .before .before .token) .ensures) ⨾ did-one type ((c .before .before .before .before .before .before .one) .ensures) ⨾ did-spaced _ ((c .before .before .directives) .ensures)
 
 field-definition-same-length : (t : ℕ) → field-definition-lts.Need-same-length (claims-field-definition t) (field-definition-at t) field-definition.Post
 field-definition-same-length t c = wrote-length (field-definition-returns t c .walked .wrote)
@@ -875,8 +868,8 @@ inline-slice-aggregate-if-named t c = refl
 inline-if-named-requires : (t : ℕ) → inline-lts.Need-if-named-requires (claims-inline t) (inline-at t) inline.Post
 inline-if-named-requires t c κs = (c .before .before .before .before .before .before .before .before .before .before .before .pre) .1 .text
 
-inline-each-requires : (t : ℕ) → inline-lts.Need-each-requires (claims-inline t) (inline-at t) inline.Post
-inline-each-requires t c κs = (omega (arith, (c .before .before .before .before .before .before .before .before .before .before .before .before .before .before .before .pre) .0), here (jobs-walked (jobs-kept ((c .before .before .before .before .before .before .before .before .before .before .before .before .before .before .before .pre) .1 .jobs) ((c .before .before .before .before .before .before .before .before .token) .ensures)) ((c .before .before .before .if-named) .ensures defaultSettings _ (sp ++ token "on" ++ sp) refl refl .walked)))
+inline-directives-requires : (t : ℕ) → inline-lts.Need-directives-requires (claims-inline t) (inline-at t) inline.Post
+inline-directives-requires t c κs = (omega (arith, (c .before .before .before .before .before .before .before .before .before .before .before .before .before .before .before .pre) .0), here (jobs-walked (jobs-kept ((c .before .before .before .before .before .before .before .before .before .before .before .before .before .before .before .pre) .1 .jobs) ((c .before .before .before .before .before .before .before .before .token) .ensures)) ((c .before .before .before .if-named) .ensures defaultSettings _ (sp ++ token "on" ++ sp) refl refl .walked)))
 
 inline-slice-aggregate-token-2 : (t : ℕ) → inline-lts.Need-slice-aggregate-token-2 (claims-inline t) (inline-at t) inline.Post
 inline-slice-aggregate-token-2 t c = refl
@@ -885,11 +878,11 @@ inline-token-requires-2 : (t : ℕ) → inline-lts.Need-token-requires-2 (claims
 inline-token-requires-2 t c κs = tt
 
 inline-curly-brackets-requires : (t : ℕ) → inline-lts.Need-curly-brackets-requires (claims-inline t) (inline-at t) inline.Post
-inline-curly-brackets-requires t c κs = (omega (arith, (c .before .before .before .before .before .before .before .before .before .before .before .before .before .before .before .before .before .before .before .before .before .before .before .before .pre) .0), jobs-kept (jobs-walked (jobs-walked (jobs-kept ((c .before .before .before .before .before .before .before .before .before .before .before .before .before .before .before .before .before .before .before .before .before .before .before .before .pre) .1 .jobs) ((c .before .before .before .before .before .before .before .before .before .before .before .before .before .before .before .before .before .token) .ensures)) ((c .before .before .before .before .before .before .before .before .before .before .before .before .if-named) .ensures defaultSettings _ (sp ++ token "on" ++ sp) refl refl .walked)) ((c .before .before .before .before .before .before .before .before .each) .ensures)) ((c .before .before .before .token2) .ensures))
+inline-curly-brackets-requires t c κs = (omega (arith, (c .before .before .before .before .before .before .before .before .before .before .before .before .before .before .before .before .before .before .before .before .before .before .before .before .pre) .0), jobs-kept (jobs-walked (jobs-walked (jobs-kept ((c .before .before .before .before .before .before .before .before .before .before .before .before .before .before .before .before .before .before .before .before .before .before .before .before .pre) .1 .jobs) ((c .before .before .before .before .before .before .before .before .before .before .before .before .before .before .before .before .before .token) .ensures)) ((c .before .before .before .before .before .before .before .before .before .before .before .before .if-named) .ensures defaultSettings _ (sp ++ token "on" ++ sp) refl refl .walked)) ((c .before .before .before .before .before .before .before .before .directives) .ensures)) ((c .before .before .before .token2) .ensures))
 
 inline-returns : (t : ℕ) → inline-lts.Need-returns (claims-inline t) (inline-at t) inline.Post
 unfolding ruleOf
-inline-returns t c = did-tokens (token "...") refl ((c .before .before .before .before .before .before .before .before .before .before .before .before .before .before .before .before .before .before .before .before .token) .ensures) ⨾ (c .before .before .before .before .before .before .before .before .before .before .before .before .before .before .before .if-named) .ensures _ _ (sp ++ token "on" ++ sp) refl refl ⨾ did-spaced _ ((c .before .before .before .before .before .before .before .before .before .before .before .each) .ensures) ⨾ did-tokens (sp) refl ((c .before .before .before .before .before .before .token2) .ensures) ⨾ did-braces _ ((c .before .before .curly-brackets) .ensures)
+inline-returns t c = did-tokens (token "...") refl ((c .before .before .before .before .before .before .before .before .before .before .before .before .before .before .before .before .before .before .before .before .token) .ensures) ⨾ (c .before .before .before .before .before .before .before .before .before .before .before .before .before .before .before .if-named) .ensures _ _ (sp ++ token "on" ++ sp) refl refl ⨾ did-spaced _ ((c .before .before .before .before .before .before .before .before .before .before .before .directives) .ensures) ⨾ did-tokens (sp) refl ((c .before .before .before .before .before .before .token2) .ensures) ⨾ did-braces _ ((c .before .before .curly-brackets) .ensures)
 
 inline-same-length : (t : ℕ) → inline-lts.Need-same-length (claims-inline t) (inline-at t) inline.Post
 inline-same-length t c = wrote-length (inline-returns t c .walked .wrote)
@@ -906,8 +899,8 @@ input-value-serialize-description-requires :
       one.Post,
       default-value-below t,
       default-value.Post,
-      each-below t,
-      each.Post,
+      directives-below t,
+      directives.Post,
     ) (input-value-at t) input-value.Post
 input-value-serialize-description-requires t c κs = (rest-ranged ((c .before .before .before .before .before .pre) .1 .jobs .rest), (c .before .before .before .before .before .pre) .1 .jobs .table)
 
@@ -926,12 +919,12 @@ input-value-one-requires t c κs = (omega (arith, (c .before .before .before .be
 input-value-default-value-requires : (t : ℕ) → input-value-lts.Need-default-value-requires (claims-input-value t) (input-value-at t) input-value.Post
 input-value-default-value-requires t c κs = (omega (arith, (c .before .before .before .before .before .before .before .before .before .before .before .before .before .before .before .before .before .before .before .before .before .before .pre) .0), here (jobs-walked (jobs-kept (jobs-kept (jobs-walked ((c .before .before .before .before .before .before .before .before .before .before .before .before .before .before .before .before .before .before .before .before .before .before .pre) .1 .jobs) ((c .before .before .before .before .before .before .before .before .before .before .before .before .before .before .before .before .serialize-description) .ensures 0 .walked)) ((c .before .before .before .before .before .before .before .before .before .before .before .before .name) .ensures)) ((c .before .before .before .before .before .before .before .token) .ensures)) ((c .before .before .before .one) .ensures)))
 
-input-value-each-requires : (t : ℕ) → input-value-lts.Need-each-requires (claims-input-value t) (input-value-at t) input-value.Post
-input-value-each-requires t c κs = (omega (arith, (c .before .before .before .before .before .before .before .before .before .before .before .before .before .before .before .before .before .before .before .before .before .before .before .before .before .before .pre) .0), here (jobs-walked (jobs-walked (jobs-kept (jobs-kept (jobs-walked ((c .before .before .before .before .before .before .before .before .before .before .before .before .before .before .before .before .before .before .before .before .before .before .before .before .before .before .pre) .1 .jobs) ((c .before .before .before .before .before .before .before .before .before .before .before .before .before .before .before .before .before .before .before .before .serialize-description) .ensures 0 .walked)) ((c .before .before .before .before .before .before .before .before .before .before .before .before .before .before .before .before .name) .ensures)) ((c .before .before .before .before .before .before .before .before .before .before .before .token) .ensures)) ((c .before .before .before .before .before .before .before .one) .ensures)) ((c .before .before .before .default-value) .ensures 0 .walked)))
+input-value-directives-requires : (t : ℕ) → input-value-lts.Need-directives-requires (claims-input-value t) (input-value-at t) input-value.Post
+input-value-directives-requires t c κs = (omega (arith, (c .before .before .before .before .before .before .before .before .before .before .before .before .before .before .before .before .before .before .before .before .before .before .before .before .before .before .pre) .0), here (jobs-walked (jobs-walked (jobs-kept (jobs-kept (jobs-walked ((c .before .before .before .before .before .before .before .before .before .before .before .before .before .before .before .before .before .before .before .before .before .before .before .before .before .before .pre) .1 .jobs) ((c .before .before .before .before .before .before .before .before .before .before .before .before .before .before .before .before .before .before .before .before .serialize-description) .ensures 0 .walked)) ((c .before .before .before .before .before .before .before .before .before .before .before .before .before .before .before .before .name) .ensures)) ((c .before .before .before .before .before .before .before .before .before .before .before .token) .ensures)) ((c .before .before .before .before .before .before .before .one) .ensures)) ((c .before .before .before .default-value) .ensures 0 .walked)))
 
 input-value-returns : (t : ℕ) → input-value-lts.Need-returns (claims-input-value t) (input-value-at t) input-value.Post
 unfolding ruleOf
-input-value-returns t c = (c .before .before .before .before .before .before .before .before .before .before .before .before .before .before .before .before .before .before .before .before .before .before .before .serialize-description) .ensures _ ⨾ did-name ((c .before .before .before .before .before .before .before .before .before .before .before .before .before .before .before .before .before .before .before .name) .ensures) ⨾ did-tokens (token ":" ++ sp) refl ((c .before .before .before .before .before .before .before .before .before .before .before .before .before .before .token) .ensures) ⨾ did-one type ((c .before .before .before .before .before .before .before .before .before .before .one) .ensures) ⨾ (c .before .before .before .before .before .before .default-value) .ensures _ ⨾ did-spaced _ ((c .before .before .each) .ensures)
+input-value-returns t c = (c .before .before .before .before .before .before .before .before .before .before .before .before .before .before .before .before .before .before .before .before .before .before .before .serialize-description) .ensures _ ⨾ did-name ((c .before .before .before .before .before .before .before .before .before .before .before .before .before .before .before .before .before .before .before .name) .ensures) ⨾ did-tokens (token ":" ++ sp) refl ((c .before .before .before .before .before .before .before .before .before .before .before .before .before .before .token) .ensures) ⨾ did-one type ((c .before .before .before .before .before .before .before .before .before .before .one) .ensures) ⨾ (c .before .before .before .before .before .before .default-value) .ensures _ ⨾ did-spaced _ ((c .before .before .directives) .ensures)
 
 input-value-same-length : (t : ℕ) → input-value-lts.Need-same-length (claims-input-value t) (input-value-at t) input-value.Post
 input-value-same-length t c = wrote-length (input-value-returns t c .walked .wrote)
@@ -1255,6 +1248,43 @@ serialize-impl-returns-19 t c = no-definition _ _ ((c .before .before .before .b
 serialize-impl-returns-20 : (t : ℕ) → serialize-impl-lts.Need-returns-20 (claims-serialize-impl t) (serialize-impl-at t) serialize-impl.Post
 serialize-impl-returns-20 t c = wrote-as (wrote-none (record { place = omega arith; size = omega arith })) (no-kind _ _ _ _ (past-all _ _ ((c .before .before .before .before .before .before .kind) .ensures .is) ((c .if3) .left) ((c .before .before .before .match) .rest .1)))
 
+signature-any-marked-requires : (t : ℕ) → signature-lts.Need-any-marked-requires (claims-signature t) (signature-at t) signature.Post
+signature-any-marked-requires t c κs = rest-ranged ((c .before .before .before .before .pre) .1 .rest)
+
+signature-single-line-unless-requires : (t : ℕ) → signature-lts.Need-single-line-unless-requires (claims-signature t) (signature-at t) signature.Post
+signature-single-line-unless-requires t c κs = tt
+
+signature-slice-aggregate-comma-separated :
+    (t : ℕ) → signature-lts.Need-slice-aggregate-comma-separated (
+      any-marked-reads.Asked,
+      any-marked-reads.Learnt,
+      single-line-unless-reads.Asked,
+      single-line-unless-reads.Learnt,
+      comma-separated-below t,
+      comma-separated.Post,
+    ) (signature-at t) signature.Post
+signature-slice-aggregate-comma-separated t c = refl
+
+signature-slice-aggregate-comma-separated-2 :
+    (t : ℕ) → signature-lts.Need-slice-aggregate-comma-separated-2 (
+      any-marked-reads.Asked,
+      any-marked-reads.Learnt,
+      single-line-unless-reads.Asked,
+      single-line-unless-reads.Learnt,
+      comma-separated-below t,
+      comma-separated.Post,
+    ) (signature-at t) signature.Post
+signature-slice-aggregate-comma-separated-2 t c = refl
+
+signature-comma-separated-requires : (t : ℕ) → signature-lts.Need-comma-separated-requires (claims-signature t) (signature-at t) signature.Post
+signature-comma-separated-requires t c κs = (omega (arith, (c .before .before .before .before .before .before .before .before .before .pre) .0), jobs-lines ((c .before .before .before .before .before .before .before .before .before .args) .state) ((c .before .before .before .before .any-marked) .result) ((c .before .before .before .before .before .before .before .before .before .pre) .1) ((c .before .before .before .single-line-unless) .ensures))
+
+signature-returns : (t : ℕ) → signature-lts.Need-returns (claims-signature t) (signature-at t) signature.Post
+signature-returns t c = λ n. did-lines (ofKind 22) _ ((c .before .before .before .before .before .before .before .any-marked) .ensures) ((c .before .before .before .before .before .before .single-line-unless) .ensures _) ((c .before .before .comma-separated) .ensures)
+
+signature-same-length : (t : ℕ) → signature-lts.Need-same-length (claims-signature t) (signature-at t) signature.Post
+signature-same-length t c = wrote-length (signature-returns t c 0 .walked .wrote)
+
 spread-slice-aggregate-token : (t : ℕ) → spread-lts.Need-slice-aggregate-token (claims-spread t) (spread-at t) spread.Post
 spread-slice-aggregate-token t c = refl
 
@@ -1264,12 +1294,12 @@ spread-token-requires t c κs = tt
 spread-name-requires : (t : ℕ) → spread-lts.Need-name-requires (claims-spread t) (spread-at t) spread.Post
 spread-name-requires t c κs = (c .before .before .before .before .before .before .before .before .before .before .pre) .1 .text
 
-spread-each-requires : (t : ℕ) → spread-lts.Need-each-requires (claims-spread t) (spread-at t) spread.Post
-spread-each-requires t c κs = (omega (arith, (c .before .before .before .before .before .before .before .before .before .before .before .before .before .before .pre) .0), here (jobs-kept (jobs-kept ((c .before .before .before .before .before .before .before .before .before .before .before .before .before .before .pre) .1 .jobs) ((c .before .before .before .before .before .before .before .token) .ensures)) ((c .before .before .before .name) .ensures)))
+spread-directives-requires : (t : ℕ) → spread-lts.Need-directives-requires (claims-spread t) (spread-at t) spread.Post
+spread-directives-requires t c κs = (omega (arith, (c .before .before .before .before .before .before .before .before .before .before .before .before .before .before .pre) .0), here (jobs-kept (jobs-kept ((c .before .before .before .before .before .before .before .before .before .before .before .before .before .before .pre) .1 .jobs) ((c .before .before .before .before .before .before .before .token) .ensures)) ((c .before .before .before .name) .ensures)))
 
 spread-returns : (t : ℕ) → spread-lts.Need-returns (claims-spread t) (spread-at t) spread.Post
 unfolding ruleOf
-spread-returns t c = did-tokens (token "...") refl ((c .before .before .before .before .before .before .before .before .before .before .token) .ensures) ⨾ did-name ((c .before .before .before .before .before .before .name) .ensures) ⨾ did-spaced _ ((c .before .before .each) .ensures)
+spread-returns t c = did-tokens (token "...") refl ((c .before .before .before .before .before .before .before .before .before .before .token) .ensures) ⨾ did-name ((c .before .before .before .before .before .before .name) .ensures) ⨾ did-spaced _ ((c .before .before .directives) .ensures)
 
 spread-same-length : (t : ℕ) → spread-lts.Need-same-length (claims-spread t) (spread-at t) spread.Post
 spread-same-length t c = wrote-length (spread-returns t c .walked .wrote)
@@ -1388,19 +1418,19 @@ variable-one-requires t c κs = (omega (arith, (c .before .before .before .befor
 variable-default-value-requires : (t : ℕ) → variable-lts.Need-default-value-requires (claims-variable t) (variable-at t) variable.Post
 variable-default-value-requires t c κs = (omega (arith, (c .before .before .before .before .before .before .before .before .before .before .before .before .before .before .before .before .before .before .before .before .before .before .before .pre) .0), here (jobs-walked (jobs-kept (jobs-kept (jobs-kept ((c .before .before .before .before .before .before .before .before .before .before .before .before .before .before .before .before .before .before .before .before .before .before .before .pre) .1 .jobs) ((c .before .before .before .before .before .before .before .before .before .before .before .before .before .before .before .before .token) .ensures)) ((c .before .before .before .before .before .before .before .before .before .before .before .before .name) .ensures)) ((c .before .before .before .before .before .before .before .token2) .ensures)) ((c .before .before .before .one) .ensures)))
 
-variable-each-requires : (t : ℕ) → variable-lts.Need-each-requires (claims-variable t) (variable-at t) variable.Post
-variable-each-requires t c κs = (omega (arith, (c .before .before .before .before .before .before .before .before .before .before .before .before .before .before .before .before .before .before .before .before .before .before .before .before .before .before .before .pre) .0), here (jobs-walked (jobs-walked (jobs-kept (jobs-kept (jobs-kept ((c .before .before .before .before .before .before .before .before .before .before .before .before .before .before .before .before .before .before .before .before .before .before .before .before .before .before .before .pre) .1 .jobs) ((c .before .before .before .before .before .before .before .before .before .before .before .before .before .before .before .before .before .before .before .before .token) .ensures)) ((c .before .before .before .before .before .before .before .before .before .before .before .before .before .before .before .before .name) .ensures)) ((c .before .before .before .before .before .before .before .before .before .before .before .token2) .ensures)) ((c .before .before .before .before .before .before .before .one) .ensures)) ((c .before .before .before .default-value) .ensures 0 .walked)))
+variable-directives-requires : (t : ℕ) → variable-lts.Need-directives-requires (claims-variable t) (variable-at t) variable.Post
+variable-directives-requires t c κs = (omega (arith, (c .before .before .before .before .before .before .before .before .before .before .before .before .before .before .before .before .before .before .before .before .before .before .before .before .before .before .before .pre) .0), here (jobs-walked (jobs-walked (jobs-kept (jobs-kept (jobs-kept ((c .before .before .before .before .before .before .before .before .before .before .before .before .before .before .before .before .before .before .before .before .before .before .before .before .before .before .before .pre) .1 .jobs) ((c .before .before .before .before .before .before .before .before .before .before .before .before .before .before .before .before .before .before .before .before .token) .ensures)) ((c .before .before .before .before .before .before .before .before .before .before .before .before .before .before .before .before .name) .ensures)) ((c .before .before .before .before .before .before .before .before .before .before .before .token2) .ensures)) ((c .before .before .before .before .before .before .before .one) .ensures)) ((c .before .before .before .default-value) .ensures 0 .walked)))
 
 variable-returns : (t : ℕ) → variable-lts.Need-returns (claims-variable t) (variable-at t) variable.Post
 unfolding ruleOf
-variable-returns t c = did-tokens (token "$") refl ((c .before .before .before .before .before .before .before .before .before .before .before .before .before .before .before .before .before .before .before .before .before .before .before .token) .ensures) ⨾ did-name ((c .before .before .before .before .before .before .before .before .before .before .before .before .before .before .before .before .before .before .before .name) .ensures) ⨾ did-tokens (token ":" ++ sp) refl ((c .before .before .before .before .before .before .before .before .before .before .before .before .before .before .token2) .ensures) ⨾ did-one type ((c .before .before .before .before .before .before .before .before .before .before .one) .ensures) ⨾ (c .before .before .before .before .before .before .default-value) .ensures _ ⨾ did-spaced _ ((c .before .before .each) .ensures)
+variable-returns t c = did-tokens (token "$") refl ((c .before .before .before .before .before .before .before .before .before .before .before .before .before .before .before .before .before .before .before .before .before .before .before .token) .ensures) ⨾ did-name ((c .before .before .before .before .before .before .before .before .before .before .before .before .before .before .before .before .before .before .before .name) .ensures) ⨾ did-tokens (token ":" ++ sp) refl ((c .before .before .before .before .before .before .before .before .before .before .before .before .before .before .token2) .ensures) ⨾ did-one type ((c .before .before .before .before .before .before .before .before .before .before .one) .ensures) ⨾ (c .before .before .before .before .before .before .default-value) .ensures _ ⨾ did-spaced _ ((c .before .before .directives) .ensures)
 
 variable-same-length : (t : ℕ) → variable-lts.Need-same-length (claims-variable t) (variable-at t) variable.Post
 variable-same-length t c = wrote-length (variable-returns t c .walked .wrote)
 
-pub +argument+arguments+arguments-definition+comma-separated+curly-brackets+default-value+directive+each+enum-value+field+field-definition+inline+input-value+list+object+one+optional-braces+serialize-impl+spread+value+variable-spec :
+pub +argument+arguments+arguments-definition+comma-separated+curly-brackets+default-value+directive+directives+each+enum-value+field+field-definition+inline+input-value+list+object+one+optional-braces+serialize-impl+signature+spread+value+variable-spec :
     {M : Type 1} → statement M
-+argument+arguments+arguments-definition+comma-separated+curly-brackets+default-value+directive+each+enum-value+field+field-definition+inline+input-value+list+object+one+optional-braces+serialize-impl+spread+value+variable-spec =
++argument+arguments+arguments-definition+comma-separated+curly-brackets+default-value+directive+directives+each+enum-value+field+field-definition+inline+input-value+list+object+one+optional-braces+serialize-impl+signature+spread+value+variable-spec =
     close
     μ-argument
     μ-arguments
@@ -1409,6 +1439,7 @@ pub +argument+arguments+arguments-definition+comma-separated+curly-brackets+defa
     μ-curly-brackets
     μ-default-value
     μ-directive
+    μ-directives
     μ-each
     μ-enum-value
     μ-field
@@ -1420,6 +1451,7 @@ pub +argument+arguments+arguments-definition+comma-separated+curly-brackets+defa
     μ-one
     μ-optional-braces
     μ-serialize-impl
+    μ-signature
     μ-spread
     μ-value
     μ-variable
@@ -1460,21 +1492,13 @@ pub +argument+arguments+arguments-definition+comma-separated+curly-brackets+defa
     (λ t. arguments-definition-lts.spec (
       is-next-reads.Asked,
       is-next-reads.Learnt,
-      any-marked-reads.Asked,
-      any-marked-reads.Learnt,
-      single-line-unless-reads.Asked,
-      single-line-unless-reads.Learnt,
-      comma-separated-below t,
-      comma-separated.Post,
+      signature-below t,
+      signature.Post,
     )
     (arguments-definition-at t)
     arguments-definition.Post
     (arguments-definition-is-next-requires t)
-    (arguments-definition-any-marked-requires t)
-    (arguments-definition-single-line-unless-requires t)
-    (arguments-definition-slice-aggregate-comma-separated t)
-    (arguments-definition-slice-aggregate-comma-separated-2 t)
-    (arguments-definition-comma-separated-requires t)
+    (arguments-definition-signature-requires t)
     (arguments-definition-same-length t)
     (arguments-definition-returns t)
     (arguments-definition-returns-2 t))
@@ -1571,6 +1595,15 @@ pub +argument+arguments+arguments-definition+comma-separated+curly-brackets+defa
     (directive-arguments-requires t)
     (directive-same-length t)
     (directive-returns t))
+    (λ t. directives-lts.spec
+    (is-next-reads.Asked, is-next-reads.Learnt, each-below t, each.Post)
+    (directives-at t)
+    directives.Post
+    (directives-is-next-requires t)
+    (directives-each-requires t)
+    (directives-same-length t)
+    (directives-returns t)
+    (directives-returns-2 t))
     (λ t. each-lts.spec (
       is-next-reads.Asked,
       is-next-reads.Learnt,
@@ -1596,14 +1629,14 @@ pub +argument+arguments+arguments-definition+comma-separated+curly-brackets+defa
       serialize-description-reads.Learnt,
       name-reads.Asked,
       name-reads.Learnt,
-      each-below t,
-      each.Post,
+      directives-below t,
+      directives.Post,
     )
     (enum-value-at t)
     enum-value.Post
     (enum-value-serialize-description-requires t)
     (enum-value-name-requires t)
-    (enum-value-each-requires t)
+    (enum-value-directives-requires t)
     (enum-value-same-length t)
     (enum-value-returns t))
     (λ t. field-lts.spec (
@@ -1613,8 +1646,8 @@ pub +argument+arguments+arguments-definition+comma-separated+curly-brackets+defa
       name-reads.Learnt,
       arguments-below t,
       arguments.Post,
-      each-below t,
-      each.Post,
+      directives-below t,
+      directives.Post,
       optional-braces-below t,
       optional-braces.Post,
     )
@@ -1623,7 +1656,7 @@ pub +argument+arguments+arguments-definition+comma-separated+curly-brackets+defa
     (field-alias-requires t)
     (field-name-requires t)
     (field-arguments-requires t)
-    (field-each-requires t)
+    (field-directives-requires t)
     (field-optional-braces-requires t)
     (field-same-length t)
     (field-returns t))
@@ -1638,8 +1671,8 @@ pub +argument+arguments+arguments-definition+comma-separated+curly-brackets+defa
       token-reads.Learnt,
       one-below t,
       one.Post,
-      each-below t,
-      each.Post,
+      directives-below t,
+      directives.Post,
     )
     (field-definition-at t)
     field-definition.Post
@@ -1649,7 +1682,7 @@ pub +argument+arguments+arguments-definition+comma-separated+curly-brackets+defa
     (field-definition-slice-aggregate-token t)
     (field-definition-token-requires t)
     (field-definition-one-requires t)
-    (field-definition-each-requires t)
+    (field-definition-directives-requires t)
     (field-definition-same-length t)
     (field-definition-returns t))
     (λ t. inline-lts.spec (
@@ -1657,8 +1690,8 @@ pub +argument+arguments+arguments-definition+comma-separated+curly-brackets+defa
       token-reads.Learnt,
       if-named-reads.Asked,
       if-named-reads.Learnt,
-      each-below t,
-      each.Post,
+      directives-below t,
+      directives.Post,
       curly-brackets-below t,
       curly-brackets.Post,
     )
@@ -1668,7 +1701,7 @@ pub +argument+arguments+arguments-definition+comma-separated+curly-brackets+defa
     (inline-token-requires t)
     (inline-slice-aggregate-if-named t)
     (inline-if-named-requires t)
-    (inline-each-requires t)
+    (inline-directives-requires t)
     (inline-slice-aggregate-token-2 t)
     (inline-token-requires-2 t)
     (inline-curly-brackets-requires t)
@@ -1685,8 +1718,8 @@ pub +argument+arguments+arguments-definition+comma-separated+curly-brackets+defa
       one.Post,
       default-value-below t,
       default-value.Post,
-      each-below t,
-      each.Post,
+      directives-below t,
+      directives.Post,
     )
     (input-value-at t)
     input-value.Post
@@ -1696,7 +1729,7 @@ pub +argument+arguments+arguments-definition+comma-separated+curly-brackets+defa
     (input-value-token-requires t)
     (input-value-one-requires t)
     (input-value-default-value-requires t)
-    (input-value-each-requires t)
+    (input-value-directives-requires t)
     (input-value-same-length t)
     (input-value-returns t))
     (λ t. list-lts.spec
@@ -1845,20 +1878,37 @@ pub +argument+arguments+arguments-definition+comma-separated+curly-brackets+defa
     (serialize-impl-returns-18 t)
     (serialize-impl-returns-19 t)
     (serialize-impl-returns-20 t))
+    (λ t. signature-lts.spec (
+      any-marked-reads.Asked,
+      any-marked-reads.Learnt,
+      single-line-unless-reads.Asked,
+      single-line-unless-reads.Learnt,
+      comma-separated-below t,
+      comma-separated.Post,
+    )
+    (signature-at t)
+    signature.Post
+    (signature-any-marked-requires t)
+    (signature-single-line-unless-requires t)
+    (signature-slice-aggregate-comma-separated t)
+    (signature-slice-aggregate-comma-separated-2 t)
+    (signature-comma-separated-requires t)
+    (signature-same-length t)
+    (signature-returns t))
     (λ t. spread-lts.spec (
       token-reads.Asked,
       token-reads.Learnt,
       name-reads.Asked,
       name-reads.Learnt,
-      each-below t,
-      each.Post,
+      directives-below t,
+      directives.Post,
     )
     (spread-at t)
     spread.Post
     (spread-slice-aggregate-token t)
     (spread-token-requires t)
     (spread-name-requires t)
-    (spread-each-requires t)
+    (spread-directives-requires t)
     (spread-same-length t)
     (spread-returns t))
     (λ t. value-lts.spec (
@@ -1916,8 +1966,8 @@ pub +argument+arguments+arguments-definition+comma-separated+curly-brackets+defa
       one.Post,
       default-value-below t,
       default-value.Post,
-      each-below t,
-      each.Post,
+      directives-below t,
+      directives.Post,
     )
     (variable-at t)
     variable.Post
@@ -1928,6 +1978,6 @@ pub +argument+arguments+arguments-definition+comma-separated+curly-brackets+defa
     (variable-token-requires-2 t)
     (variable-one-requires t)
     (variable-default-value-requires t)
-    (variable-each-requires t)
+    (variable-directives-requires t)
     (variable-same-length t)
     (variable-returns t)
