@@ -127,7 +127,7 @@ fn tail(
 {
     let a = serialize::directives(words, pool, table, to, depth, prefix, state, out, at);
     let b = layout::token(out, a, b" ");
-    serialize::curly_brackets(
+    serialize::curly(
         words,
         pool,
         table,
@@ -213,7 +213,7 @@ fn directive_definition(
     let a = leaves::serialize_description(words, pool, table, to, prefix, state, out, at);
     let b = layout::token(out, a, b"directive @");
     let c = layout::name(words, pool, node, out, b);
-    let d = serialize::arguments_definition(words, pool, table, to, depth, prefix, state, out, c);
+    let d = serialize::arguments_def(words, pool, table, to, depth, prefix, state, out, c);
     let e = leaves::if_one(words, node, b" repeatable", out, d);
     let f = layout::token(out, e, b" on ");
     listed(
@@ -250,7 +250,7 @@ fn schema(
     let b = layout::token(out, a, b"schema");
     let c = serialize::directives(words, pool, table, to, depth, prefix, state, out, b);
     let d = layout::token(out, c, b" ");
-    serialize::curly_brackets(
+    serialize::curly(
         words,
         pool,
         table,
@@ -281,7 +281,7 @@ fn schema_extension(
 {
     let a = layout::token(out, at, b"extend schema");
     let b = serialize::directives(words, pool, table, to, depth, prefix, state, out, a);
-    serialize::optional_braces(
+    serialize::opt_braces(
         words,
         pool,
         table,
@@ -327,7 +327,7 @@ fn object_type_like(
         a,
     );
     let c = serialize::directives(words, pool, table, to, depth, prefix, state, out, b);
-    serialize::optional_braces(
+    serialize::opt_braces(
         words,
         pool,
         table,
@@ -413,7 +413,7 @@ fn enumeration(
     let a = layout::token(out, at, b"enum ");
     let b = layout::name(words, pool, node, out, a);
     let c = serialize::directives(words, pool, table, to, depth, prefix, state, out, b);
-    serialize::optional_braces(
+    serialize::opt_braces(
         words,
         pool,
         table,
@@ -445,7 +445,7 @@ fn input_object(
     let a = layout::token(out, at, b"input ");
     let b = layout::name(words, pool, node, out, a);
     let c = serialize::directives(words, pool, table, to, depth, prefix, state, out, b);
-    serialize::optional_braces(
+    serialize::opt_braces(
         words,
         pool,
         table,
@@ -689,7 +689,7 @@ pub fn serialize_definition(
         pen: pen,
     };
     if is_shorthand(words, first, node, to) {
-        let r = serialize::curly_brackets(
+        let r = serialize::curly(
             words,
             pool,
             table,

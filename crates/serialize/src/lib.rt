@@ -89,8 +89,8 @@ pub fn each(
     w
 }
 
-// `[a, b, c]` or, with breaks on, each on a line of its own with a comma after the last.
-fn comma_separated(
+// `[a, b, c]` or, with breaks on, each on a line of its own with a comma after the last: `comma_separated` of serialize.rs.
+fn commas(
     words: &[u32],
     pool: &[u8],
     table: &[u8; 256],
@@ -133,7 +133,7 @@ fn comma_separated(
 }
 
 // `{ a b c }` or, with breaks on, each on a line of its own: `curly_brackets_space_separated` of serialize.rs.
-pub fn curly_brackets(
+pub fn curly(
     words: &[u32],
     pool: &[u8],
     table: &[u8; 256],
@@ -170,7 +170,7 @@ pub fn curly_brackets(
 }
 
 // A space and the children of the class in braces, where there are any.
-pub fn optional_braces(
+pub fn opt_braces(
     words: &[u32],
     pool: &[u8],
     table: &[u8; 256],
@@ -187,7 +187,7 @@ pub fn optional_braces(
 {
     if layout::is_next(words, class, at.node, to) {
         let a = layout::token(out, at, b" ");
-        return curly_brackets(words, pool, table, class, to, depth, prefix, state, out, a);
+        return curly(words, pool, table, class, to, depth, prefix, state, out, a);
     }
     at
 }
@@ -209,7 +209,7 @@ pub fn arguments(
     ensures { λ r. ⌜ ((n : ℕ) → Did (now (words .entry)) (now (pool .entry)) (under state (now (prefix .entry))) n (to .0) (parenthesized singleLine kind) (now (out .entry)) at (now (out .exit)) r) ⌝ }
 {
     if layout::is_next(words, Class::Kind(kind), at.node, to) {
-        return comma_separated(
+        return commas(
             words,
             pool,
             table,
@@ -279,7 +279,7 @@ fn signature(
     let marked = layout::any_marked(words, pool, at.node, to);
     let lines = layout::single_line_unless(marked, state);
     let class = Class::Kind(INPUT_VALUE_DEFINITION);
-    comma_separated(
+    commas(
         words,
         pool,
         table,
@@ -296,7 +296,7 @@ fn signature(
 }
 
 // The same, where there are any.
-pub fn arguments_definition(
+pub fn arguments_def(
     words: &[u32],
     pool: &[u8],
     table: &[u8; 256],
@@ -319,7 +319,7 @@ pub fn arguments_definition(
 // ---- a node of each kind
 
 // ` = value`, where there is a value.
-fn default_value(
+fn default(
     words: &[u32],
     pool: &[u8],
     table: &[u8; 256],
@@ -411,11 +411,12 @@ fn variable(
     let b = layout::name(words, pool, node, out, a);
     let c = layout::token(out, b, b": ");
     let d = one(words, pool, table, to, depth, prefix, state, out, c);
-    let e = default_value(words, pool, table, to, depth, prefix, state, out, d);
+    let e = default(words, pool, table, to, depth, prefix, state, out, d);
     directives(words, pool, table, to, depth, prefix, state, out, e)
 }
 
-fn input_value(
+// An InputValueDefinition.
+fn input(
     words: &[u32],
     pool: &[u8],
     table: &[u8; 256],
@@ -434,11 +435,12 @@ fn input_value(
     let b = layout::name(words, pool, node, out, a);
     let c = layout::token(out, b, b": ");
     let d = one(words, pool, table, to, depth, prefix, state, out, c);
-    let e = default_value(words, pool, table, to, depth, prefix, state, out, d);
+    let e = default(words, pool, table, to, depth, prefix, state, out, d);
     directives(words, pool, table, to, depth, prefix, state, out, e)
 }
 
-fn field_definition(
+// A FieldDefinition.
+fn field_def(
     words: &[u32],
     pool: &[u8],
     table: &[u8; 256],
@@ -455,7 +457,7 @@ fn field_definition(
 {
     let a = leaves::serialize_description(words, pool, table, to, prefix, state, out, at);
     let b = layout::name(words, pool, node, out, a);
-    let c = arguments_definition(words, pool, table, to, depth, prefix, state, out, b);
+    let c = arguments_def(words, pool, table, to, depth, prefix, state, out, b);
     let d = layout::token(out, c, b": ");
     let e = one(words, pool, table, to, depth, prefix, state, out, d);
     directives(words, pool, table, to, depth, prefix, state, out, e)
@@ -511,7 +513,7 @@ fn field(
         b,
     );
     let d = directives(words, pool, table, to, depth, prefix, state, out, c);
-    optional_braces(
+    opt_braces(
         words,
         pool,
         table,
@@ -564,7 +566,7 @@ fn inline(
     let b = leaves::if_named(words, pool, node, b" on ", out, a);
     let c = directives(words, pool, table, to, depth, prefix, state, out, b);
     let d = layout::token(out, c, b" ");
-    curly_brackets(
+    curly(
         words,
         pool,
         table,
@@ -592,7 +594,7 @@ fn list(
     requires { ⌜ Jobs (now table) (now words) (now pool) (at .node .0) (to .0) depth (state .level + 1) ⌝ }
     ensures { λ r. ⌜ ((n : ℕ) → Did (now (words .entry)) (now (pool .entry)) (under state (now (prefix .entry))) n (to .0) (ruleOf 42) (now (out .entry)) at (now (out .exit)) r) ⌝ }
 {
-    comma_separated(
+    commas(
         words,
         pool,
         table,
@@ -622,7 +624,7 @@ fn object(
     requires { ⌜ Jobs (now table) (now words) (now pool) (at .node .0) (to .0) depth (state .level + 1) ⌝ }
     ensures { λ r. ⌜ ((n : ℕ) → Did (now (words .entry)) (now (pool .entry)) (under state (now (prefix .entry))) n (to .0) (ruleOf 43) (now (out .entry)) at (now (out .exit)) r) ⌝ }
 {
-    comma_separated(
+    commas(
         words,
         pool,
         table,
@@ -707,11 +709,11 @@ pub fn serialize_impl(
             r.pen
         }
         22 => {
-            let r = input_value(words, pool, table, node, to, below, prefix, state, out, at);
+            let r = input(words, pool, table, node, to, below, prefix, state, out, at);
             r.pen
         }
         23 => {
-            let r = field_definition(words, pool, table, node, to, below, prefix, state, out, at);
+            let r = field_def(words, pool, table, node, to, below, prefix, state, out, at);
             r.pen
         }
         24 => {

@@ -28,8 +28,8 @@ token-requires c κs = tt
 name-requires : tie.Need-name-requires
 name-requires c κs = (c .before .before .before .before .before .before .before .before .before .before .before .before .before .before .pre) .text
 
-arguments-definition-requires : tie.Need-arguments-definition-requires
-arguments-definition-requires c κs = jobs-kept (jobs-kept (jobs-walked ((c .before .before .before .before .before .before .before .before .before .before .before .before .before .before .before .before .before .before .pre) .jobs) ((c .before .before .before .before .before .before .before .before .before .before .before .before .serialize-description) .ensures 0 .walked)) ((c .before .before .before .before .before .before .before .token) .ensures)) ((c .before .before .before .name) .ensures)
+arguments-def-requires : tie.Need-arguments-def-requires
+arguments-def-requires c κs = jobs-kept (jobs-kept (jobs-walked ((c .before .before .before .before .before .before .before .before .before .before .before .before .before .before .before .before .before .before .pre) .jobs) ((c .before .before .before .before .before .before .before .before .before .before .before .before .serialize-description) .ensures 0 .walked)) ((c .before .before .before .before .before .before .before .token) .ensures)) ((c .before .before .before .name) .ensures)
 
 slice-aggregate-if-one : tie.Need-slice-aggregate-if-one
 slice-aggregate-if-one c = refl
@@ -44,11 +44,11 @@ token-requires-2 : tie.Need-token-requires-2
 token-requires-2 c κs = tt
 
 listed-requires : tie.Need-listed-requires
-listed-requires c κs = jobs-kept (jobs-walked (jobs-walked (jobs-kept (jobs-kept (jobs-walked ((c .before .before .before .before .before .before .before .before .before .before .before .before .before .before .before .before .before .before .before .before .before .before .before .before .before .before .before .before .before .before .before .before .pre) .jobs) ((c .before .before .before .before .before .before .before .before .before .before .before .before .before .before .before .before .before .before .before .before .before .before .before .before .before .before .serialize-description) .ensures 0 .walked)) ((c .before .before .before .before .before .before .before .before .before .before .before .before .before .before .before .before .before .before .before .before .before .token) .ensures)) ((c .before .before .before .before .before .before .before .before .before .before .before .before .before .before .before .before .before .name) .ensures)) ((c .before .before .before .before .before .before .before .before .before .before .before .before .before .arguments-definition) .ensures 0 .walked)) ((c .before .before .before .before .before .before .before .before .if-one) .ensures _ defaultSettings _ (sp ++ token "repeatable") refl refl .walked)) ((c .before .before .before .token2) .ensures)
+listed-requires c κs = jobs-kept (jobs-walked (jobs-walked (jobs-kept (jobs-kept (jobs-walked ((c .before .before .before .before .before .before .before .before .before .before .before .before .before .before .before .before .before .before .before .before .before .before .before .before .before .before .before .before .before .before .before .before .pre) .jobs) ((c .before .before .before .before .before .before .before .before .before .before .before .before .before .before .before .before .before .before .before .before .before .before .before .before .before .before .serialize-description) .ensures 0 .walked)) ((c .before .before .before .before .before .before .before .before .before .before .before .before .before .before .before .before .before .before .before .before .before .token) .ensures)) ((c .before .before .before .before .before .before .before .before .before .before .before .before .before .before .before .before .before .name) .ensures)) ((c .before .before .before .before .before .before .before .before .before .before .before .before .before .arguments-def) .ensures 0 .walked)) ((c .before .before .before .before .before .before .before .before .if-one) .ensures _ defaultSettings _ (sp ++ token "repeatable") refl refl .walked)) ((c .before .before .before .token2) .ensures)
 
 returns : tie.Need-returns
 unfolding ruleOf
-returns c = (c .before .before .before .before .before .before .before .before .before .before .before .before .before .before .before .before .before .before .before .before .before .before .before .before .before .before .before .before .before .serialize-description) .ensures _ ⨾ did-tokens (token "directive" ++ sp ++ token "@") refl ((c .before .before .before .before .before .before .before .before .before .before .before .before .before .before .before .before .before .before .before .before .before .before .before .before .token) .ensures) ⨾ did-name ((c .before .before .before .before .before .before .before .before .before .before .before .before .before .before .before .before .before .before .before .before .name) .ensures) ⨾ (c .before .before .before .before .before .before .before .before .before .before .before .before .before .before .before .before .arguments-definition) .ensures _ ⨾ (c .before .before .before .before .before .before .before .before .before .before .before .if-one) .ensures _ _ _ (sp ++ token "repeatable") refl refl ⨾ did-tokens (sp ++ token "on" ++ sp) refl ((c .before .before .before .before .before .before .token2) .ensures) ⨾ (c .before .before .listed) .ensures _ (ascii "|") refl
+returns c = (c .before .before .before .before .before .before .before .before .before .before .before .before .before .before .before .before .before .before .before .before .before .before .before .before .before .before .before .before .before .serialize-description) .ensures _ ⨾ did-tokens (token "directive" ++ sp ++ token "@") refl ((c .before .before .before .before .before .before .before .before .before .before .before .before .before .before .before .before .before .before .before .before .before .before .before .before .token) .ensures) ⨾ did-name ((c .before .before .before .before .before .before .before .before .before .before .before .before .before .before .before .before .before .before .before .before .name) .ensures) ⨾ (c .before .before .before .before .before .before .before .before .before .before .before .before .before .before .before .before .arguments-def) .ensures _ ⨾ (c .before .before .before .before .before .before .before .before .before .before .before .if-one) .ensures _ _ _ (sp ++ token "repeatable") refl refl ⨾ did-tokens (sp ++ token "on" ++ sp) refl ((c .before .before .before .before .before .before .token2) .ensures) ⨾ (c .before .before .listed) .ensures _ (ascii "|") refl
 
 same-length : tie.Need-same-length
 same-length c = wrote-length (returns c .walked .wrote)
@@ -61,7 +61,7 @@ directive-definition-spec =
     slice-aggregate-token
     token-requires
     name-requires
-    arguments-definition-requires
+    arguments-def-requires
     slice-aggregate-if-one
     if-one-requires
     slice-aggregate-token-2

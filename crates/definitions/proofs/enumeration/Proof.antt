@@ -28,12 +28,12 @@ name-requires c κs = (c .before .before .before .before .before .before .before
 directives-requires : tie.Need-directives-requires
 directives-requires c κs = here (jobs-kept (jobs-kept ((c .before .before .before .before .before .before .before .before .before .before .before .before .before .before .pre) .jobs) ((c .before .before .before .before .before .before .before .token) .ensures)) ((c .before .before .before .name) .ensures))
 
-optional-braces-requires : tie.Need-optional-braces-requires
-optional-braces-requires c κs = jobs-walked (jobs-kept (jobs-kept ((c .before .before .before .before .before .before .before .before .before .before .before .before .before .before .before .before .before .before .pre) .jobs) ((c .before .before .before .before .before .before .before .before .before .before .before .token) .ensures)) ((c .before .before .before .before .before .before .before .name) .ensures)) ((c .before .before .before .directives) .ensures)
+opt-braces-requires : tie.Need-opt-braces-requires
+opt-braces-requires c κs = jobs-walked (jobs-kept (jobs-kept ((c .before .before .before .before .before .before .before .before .before .before .before .before .before .before .before .before .before .before .pre) .jobs) ((c .before .before .before .before .before .before .before .before .before .before .before .token) .ensures)) ((c .before .before .before .before .before .before .before .name) .ensures)) ((c .before .before .before .directives) .ensures)
 
 returns : tie.Need-returns
 unfolding body
-returns c = did-tokens (token "enum" ++ sp) refl ((c .before .before .before .before .before .before .before .before .before .before .before .before .before .before .token) .ensures) ⨾ did-name ((c .before .before .before .before .before .before .before .before .before .before .name) .ensures) ⨾ did-spaced _ ((c .before .before .before .before .before .before .directives) .ensures) ⨾ (c .before .before .optional-braces) .ensures _
+returns c = did-tokens (token "enum" ++ sp) refl ((c .before .before .before .before .before .before .before .before .before .before .before .before .before .before .token) .ensures) ⨾ did-name ((c .before .before .before .before .before .before .before .before .before .before .name) .ensures) ⨾ did-spaced _ ((c .before .before .before .before .before .before .directives) .ensures) ⨾ (c .before .before .opt-braces) .ensures _
 
 same-length : tie.Need-same-length
 same-length c = wrote-length (returns c .walked .wrote)
@@ -46,6 +46,6 @@ enumeration-spec =
     token-requires
     name-requires
     directives-requires
-    optional-braces-requires
+    opt-braces-requires
     same-length
     returns)

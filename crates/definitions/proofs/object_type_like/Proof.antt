@@ -28,11 +28,11 @@ listed-after-requires c κs = jobs-kept ((c .before .before .before .before .bef
 directives-requires : tie.Need-directives-requires
 directives-requires c κs = here (jobs-walked (jobs-kept ((c .before .before .before .before .before .before .before .before .before .before .before .before .before .before .pre) .jobs) ((c .before .before .before .before .before .before .before .before .name) .ensures)) ((c .before .before .before .listed-after) .ensures 0 (sp ++ token "implements" ++ sp) (ascii "&") refl refl refl .walked))
 
-optional-braces-requires : tie.Need-optional-braces-requires
-optional-braces-requires c κs = jobs-walked (jobs-walked (jobs-kept ((c .before .before .before .before .before .before .before .before .before .before .before .before .before .before .before .before .before .before .pre) .jobs) ((c .before .before .before .before .before .before .before .before .before .before .before .before .name) .ensures)) ((c .before .before .before .before .before .before .before .listed-after) .ensures 0 (sp ++ token "implements" ++ sp) (ascii "&") refl refl refl .walked)) ((c .before .before .before .directives) .ensures)
+opt-braces-requires : tie.Need-opt-braces-requires
+opt-braces-requires c κs = jobs-walked (jobs-walked (jobs-kept ((c .before .before .before .before .before .before .before .before .before .before .before .before .before .before .before .before .before .before .pre) .jobs) ((c .before .before .before .before .before .before .before .before .before .before .before .before .name) .ensures)) ((c .before .before .before .before .before .before .before .listed-after) .ensures 0 (sp ++ token "implements" ++ sp) (ascii "&") refl refl refl .walked)) ((c .before .before .before .directives) .ensures)
 
 returns : tie.Need-returns
-returns c = did-name ((c .before .before .before .before .before .before .before .before .before .before .before .before .before .before .before .name) .ensures) ⨾ (c .before .before .before .before .before .before .before .before .before .before .listed-after) .ensures _ (sp ++ token "implements" ++ sp) (ascii "&") refl refl refl ⨾ did-spaced _ ((c .before .before .before .before .before .before .directives) .ensures) ⨾ (c .before .before .optional-braces) .ensures _
+returns c = did-name ((c .before .before .before .before .before .before .before .before .before .before .before .before .before .before .before .name) .ensures) ⨾ (c .before .before .before .before .before .before .before .before .before .before .listed-after) .ensures _ (sp ++ token "implements" ++ sp) (ascii "&") refl refl refl ⨾ did-spaced _ ((c .before .before .before .before .before .before .directives) .ensures) ⨾ (c .before .before .opt-braces) .ensures _
 
 same-length : tie.Need-same-length
 same-length c = wrote-length (returns c .walked .wrote)
@@ -45,6 +45,6 @@ object-type-like-spec =
     slice-aggregate-listed-after
     listed-after-requires
     directives-requires
-    optional-braces-requires
+    opt-braces-requires
     same-length
     returns)

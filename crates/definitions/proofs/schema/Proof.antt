@@ -34,12 +34,12 @@ slice-aggregate-token-2 c = refl
 token-requires-2 : tie.Need-token-requires-2
 token-requires-2 c κs = tt
 
-curly-brackets-requires : tie.Need-curly-brackets-requires
-curly-brackets-requires c κs = jobs-kept (jobs-walked (jobs-kept (jobs-walked ((c .before .before .before .before .before .before .before .before .before .before .before .before .before .before .before .before .before .before .before .before .before .before .before .pre) .jobs) ((c .before .before .before .before .before .before .before .before .before .before .before .before .before .before .before .before .before .serialize-description) .ensures 0 .walked)) ((c .before .before .before .before .before .before .before .before .before .before .before .before .token) .ensures)) ((c .before .before .before .before .before .before .before .before .directives) .ensures)) ((c .before .before .before .token2) .ensures)
+curly-requires : tie.Need-curly-requires
+curly-requires c κs = jobs-kept (jobs-walked (jobs-kept (jobs-walked ((c .before .before .before .before .before .before .before .before .before .before .before .before .before .before .before .before .before .before .before .before .before .before .before .pre) .jobs) ((c .before .before .before .before .before .before .before .before .before .before .before .before .before .before .before .before .before .serialize-description) .ensures 0 .walked)) ((c .before .before .before .before .before .before .before .before .before .before .before .before .token) .ensures)) ((c .before .before .before .before .before .before .before .before .directives) .ensures)) ((c .before .before .before .token2) .ensures)
 
 returns : tie.Need-returns
 unfolding ruleOf
-returns c = (c .before .before .before .before .before .before .before .before .before .before .before .before .before .before .before .before .before .before .before .before .serialize-description) .ensures _ ⨾ did-tokens (token "schema") refl ((c .before .before .before .before .before .before .before .before .before .before .before .before .before .before .before .token) .ensures) ⨾ did-spaced _ ((c .before .before .before .before .before .before .before .before .before .before .before .directives) .ensures) ⨾ did-tokens (sp) refl ((c .before .before .before .before .before .before .token2) .ensures) ⨾ did-braces _ ((c .before .before .curly-brackets) .ensures)
+returns c = (c .before .before .before .before .before .before .before .before .before .before .before .before .before .before .before .before .before .before .before .before .serialize-description) .ensures _ ⨾ did-tokens (token "schema") refl ((c .before .before .before .before .before .before .before .before .before .before .before .before .before .before .before .token) .ensures) ⨾ did-spaced _ ((c .before .before .before .before .before .before .before .before .before .before .before .directives) .ensures) ⨾ did-tokens (sp) refl ((c .before .before .before .before .before .before .token2) .ensures) ⨾ did-braces _ ((c .before .before .curly) .ensures)
 
 same-length : tie.Need-same-length
 same-length c = wrote-length (returns c .walked .wrote)
@@ -54,6 +54,6 @@ schema-spec =
     directives-requires
     slice-aggregate-token-2
     token-requires-2
-    curly-brackets-requires
+    curly-requires
     same-length
     returns)

@@ -25,12 +25,12 @@ token-requires c κs = tt
 directives-requires : tie.Need-directives-requires
 directives-requires c κs = here (jobs-kept ((c .before .before .before .before .before .before .before .before .before .before .pre) .jobs) ((c .before .before .before .token) .ensures))
 
-optional-braces-requires : tie.Need-optional-braces-requires
-optional-braces-requires c κs = jobs-walked (jobs-kept ((c .before .before .before .before .before .before .before .before .before .before .before .before .before .before .pre) .jobs) ((c .before .before .before .before .before .before .before .token) .ensures)) ((c .before .before .before .directives) .ensures)
+opt-braces-requires : tie.Need-opt-braces-requires
+opt-braces-requires c κs = jobs-walked (jobs-kept ((c .before .before .before .before .before .before .before .before .before .before .before .before .before .before .pre) .jobs) ((c .before .before .before .before .before .before .before .token) .ensures)) ((c .before .before .before .directives) .ensures)
 
 returns : tie.Need-returns
 unfolding ruleOf
-returns c = did-tokens (token "extend" ++ sp ++ token "schema") refl ((c .before .before .before .before .before .before .before .before .before .before .token) .ensures) ⨾ did-spaced _ ((c .before .before .before .before .before .before .directives) .ensures) ⨾ (c .before .before .optional-braces) .ensures _
+returns c = did-tokens (token "extend" ++ sp ++ token "schema") refl ((c .before .before .before .before .before .before .before .before .before .before .token) .ensures) ⨾ did-spaced _ ((c .before .before .before .before .before .before .directives) .ensures) ⨾ (c .before .before .opt-braces) .ensures _
 
 same-length : tie.Need-same-length
 same-length c = wrote-length (returns c .walked .wrote)
@@ -42,6 +42,6 @@ schema-extension-spec =
     slice-aggregate-token
     token-requires
     directives-requires
-    optional-braces-requires
+    opt-braces-requires
     same-length
     returns)

@@ -19,14 +19,14 @@ add-serialize-kind c = omega (arith, job-in-table ((c .before .before .before .b
 is-shorthand-requires : tie.Need-is-shorthand-requires
 is-shorthand-requires c κs = (job-in-table ((c .before .before .before .before .before .before .pre) .0), rest-within (children-jobs ((c .before .before .before .before .before .before .pre) .0) ((c .before .end) .ensures .is) .rest))
 
-sub-curly-brackets : tie.Need-sub-curly-brackets
-sub-curly-brackets c = job-deep ((c .before .before .before .before .before .before .before .before .pre) .0)
+sub-curly : tie.Need-sub-curly
+sub-curly c = job-deep ((c .before .before .before .before .before .before .before .before .pre) .0)
 
-curly-brackets-requires : tie.Need-curly-brackets-requires
-curly-brackets-requires c κs = children-jobs ((c .before .before .before .before .before .before .before .before .before .pre) .0) ((c .before .before .before .before .end) .ensures .is)
+curly-requires : tie.Need-curly-requires
+curly-requires c κs = children-jobs ((c .before .before .before .before .before .before .before .before .before .pre) .0) ((c .before .before .before .before .end) .ensures .is)
 
 returns : tie.Need-returns
-returns c = short-definition ((c .before .before .before .before .before .before .before .before .before .before .before .before .before .pre) .0) _ ((c .before .before .before .before .before .before .before .before .end) .ensures .is) refl _ (sym ((c .before .before .before .before .before .before .is-shorthand) .ensures) ∙ (c .before .before .before .before .before .if1) .taken) ((c .before .before .before .curly-brackets) .ensures)
+returns c = short-definition ((c .before .before .before .before .before .before .before .before .before .before .before .before .before .pre) .0) _ ((c .before .before .before .before .before .before .before .before .end) .ensures .is) refl _ (sym ((c .before .before .before .before .before .before .is-shorthand) .ensures) ∙ (c .before .before .before .before .before .if1) .taken) ((c .before .before .before .curly) .ensures)
 
 same-length : tie.Need-same-length
 same-length c = wrote-length (returns c)
@@ -53,8 +53,8 @@ serialize-definition-spec =
     end-requires
     add-serialize-kind
     is-shorthand-requires
-    sub-curly-brackets
-    curly-brackets-requires
+    sub-curly
+    curly-requires
     same-length
     returns
     kind-requires

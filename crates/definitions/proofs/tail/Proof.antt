@@ -25,11 +25,11 @@ slice-aggregate-token c = refl
 token-requires : tie.Need-token-requires
 token-requires c κs = tt
 
-curly-brackets-requires : tie.Need-curly-brackets-requires
-curly-brackets-requires c κs = jobs-kept (jobs-walked ((c .before .before .before .before .before .before .before .before .before .before .before .before .before .before .pre)) ((c .before .before .before .before .before .before .before .before .directives) .ensures)) ((c .before .before .before .token) .ensures)
+curly-requires : tie.Need-curly-requires
+curly-requires c κs = jobs-kept (jobs-walked ((c .before .before .before .before .before .before .before .before .before .before .before .before .before .before .pre)) ((c .before .before .before .before .before .before .before .before .directives) .ensures)) ((c .before .before .before .token) .ensures)
 
 returns : tie.Need-returns
-returns c = λ n. did-spaced _ ((c .before .before .before .before .before .before .before .before .before .before .before .directives) .ensures) ⨾ did-tokens (sp) refl ((c .before .before .before .before .before .before .token) .ensures) ⨾ did-braces _ ((c .before .before .curly-brackets) .ensures)
+returns c = λ n. did-spaced _ ((c .before .before .before .before .before .before .before .before .before .before .before .directives) .ensures) ⨾ did-tokens (sp) refl ((c .before .before .before .before .before .before .token) .ensures) ⨾ did-braces _ ((c .before .before .curly) .ensures)
 
 same-length : tie.Need-same-length
 same-length c = wrote-length (returns c 0 .walked .wrote)
@@ -41,6 +41,6 @@ tail-spec =
     directives-requires
     slice-aggregate-token
     token-requires
-    curly-brackets-requires
+    curly-requires
     same-length
     returns)

@@ -27,73 +27,73 @@ use borrow.Fn.Kinds.{In}
 use borrow.Fn.PlainCycle.{Measures, is, falls, and}
 use Rattle.serialize.proofs.argument.Reads as argument
 use Rattle.serialize.proofs.argument.Kinds as argument-kinds
-use Rattle.serialize.proofs.+argument+arguments+arguments_definition+comma_separated+curly_brackets+default_value+directive+directives+each+enum_value+field+field_definition+inline+input_value+list+object+one+optional_braces+serialize_impl+signature+spread+value+variable.Lts-argument as argument-lts
+use Rattle.serialize.proofs.+argument+arguments+arguments_def+commas+curly+default+directive+directives+each+enum_value+field+field_def+inline+input+list+object+one+opt_braces+serialize_impl+signature+spread+value+variable.Lts-argument as argument-lts
 use Rattle.serialize.proofs.arguments.Reads as arguments
 use Rattle.serialize.proofs.arguments.Kinds as arguments-kinds
-use Rattle.serialize.proofs.+argument+arguments+arguments_definition+comma_separated+curly_brackets+default_value+directive+directives+each+enum_value+field+field_definition+inline+input_value+list+object+one+optional_braces+serialize_impl+signature+spread+value+variable.Lts-arguments as arguments-lts
-use Rattle.serialize.proofs.arguments_definition.Reads as arguments-definition
-use Rattle.serialize.proofs.arguments_definition.Kinds as arguments-definition-kinds
-use Rattle.serialize.proofs.+argument+arguments+arguments_definition+comma_separated+curly_brackets+default_value+directive+directives+each+enum_value+field+field_definition+inline+input_value+list+object+one+optional_braces+serialize_impl+signature+spread+value+variable.Lts-arguments_definition as arguments-definition-lts
-use Rattle.serialize.proofs.comma_separated.Reads as comma-separated
-use Rattle.serialize.proofs.comma_separated.Kinds as comma-separated-kinds
-use Rattle.serialize.proofs.+argument+arguments+arguments_definition+comma_separated+curly_brackets+default_value+directive+directives+each+enum_value+field+field_definition+inline+input_value+list+object+one+optional_braces+serialize_impl+signature+spread+value+variable.Lts-comma_separated as comma-separated-lts
-use Rattle.serialize.proofs.curly_brackets.Reads as curly-brackets
-use Rattle.serialize.proofs.curly_brackets.Kinds as curly-brackets-kinds
-use Rattle.serialize.proofs.+argument+arguments+arguments_definition+comma_separated+curly_brackets+default_value+directive+directives+each+enum_value+field+field_definition+inline+input_value+list+object+one+optional_braces+serialize_impl+signature+spread+value+variable.Lts-curly_brackets as curly-brackets-lts
-use Rattle.serialize.proofs.default_value.Reads as default-value
-use Rattle.serialize.proofs.default_value.Kinds as default-value-kinds
-use Rattle.serialize.proofs.+argument+arguments+arguments_definition+comma_separated+curly_brackets+default_value+directive+directives+each+enum_value+field+field_definition+inline+input_value+list+object+one+optional_braces+serialize_impl+signature+spread+value+variable.Lts-default_value as default-value-lts
+use Rattle.serialize.proofs.+argument+arguments+arguments_def+commas+curly+default+directive+directives+each+enum_value+field+field_def+inline+input+list+object+one+opt_braces+serialize_impl+signature+spread+value+variable.Lts-arguments as arguments-lts
+use Rattle.serialize.proofs.arguments_def.Reads as arguments-def
+use Rattle.serialize.proofs.arguments_def.Kinds as arguments-def-kinds
+use Rattle.serialize.proofs.+argument+arguments+arguments_def+commas+curly+default+directive+directives+each+enum_value+field+field_def+inline+input+list+object+one+opt_braces+serialize_impl+signature+spread+value+variable.Lts-arguments_def as arguments-def-lts
+use Rattle.serialize.proofs.commas.Reads as commas
+use Rattle.serialize.proofs.commas.Kinds as commas-kinds
+use Rattle.serialize.proofs.+argument+arguments+arguments_def+commas+curly+default+directive+directives+each+enum_value+field+field_def+inline+input+list+object+one+opt_braces+serialize_impl+signature+spread+value+variable.Lts-commas as commas-lts
+use Rattle.serialize.proofs.curly.Reads as curly
+use Rattle.serialize.proofs.curly.Kinds as curly-kinds
+use Rattle.serialize.proofs.+argument+arguments+arguments_def+commas+curly+default+directive+directives+each+enum_value+field+field_def+inline+input+list+object+one+opt_braces+serialize_impl+signature+spread+value+variable.Lts-curly as curly-lts
+use Rattle.serialize.proofs.default.Reads as default
+use Rattle.serialize.proofs.default.Kinds as default-kinds
+use Rattle.serialize.proofs.+argument+arguments+arguments_def+commas+curly+default+directive+directives+each+enum_value+field+field_def+inline+input+list+object+one+opt_braces+serialize_impl+signature+spread+value+variable.Lts-default as default-lts
 use Rattle.serialize.proofs.directive.Reads as directive
 use Rattle.serialize.proofs.directive.Kinds as directive-kinds
-use Rattle.serialize.proofs.+argument+arguments+arguments_definition+comma_separated+curly_brackets+default_value+directive+directives+each+enum_value+field+field_definition+inline+input_value+list+object+one+optional_braces+serialize_impl+signature+spread+value+variable.Lts-directive as directive-lts
+use Rattle.serialize.proofs.+argument+arguments+arguments_def+commas+curly+default+directive+directives+each+enum_value+field+field_def+inline+input+list+object+one+opt_braces+serialize_impl+signature+spread+value+variable.Lts-directive as directive-lts
 use Rattle.serialize.proofs.directives.Reads as directives
 use Rattle.serialize.proofs.directives.Kinds as directives-kinds
-use Rattle.serialize.proofs.+argument+arguments+arguments_definition+comma_separated+curly_brackets+default_value+directive+directives+each+enum_value+field+field_definition+inline+input_value+list+object+one+optional_braces+serialize_impl+signature+spread+value+variable.Lts-directives as directives-lts
+use Rattle.serialize.proofs.+argument+arguments+arguments_def+commas+curly+default+directive+directives+each+enum_value+field+field_def+inline+input+list+object+one+opt_braces+serialize_impl+signature+spread+value+variable.Lts-directives as directives-lts
 use Rattle.serialize.proofs.each.Reads as each
 use Rattle.serialize.proofs.each.Kinds as each-kinds
-use Rattle.serialize.proofs.+argument+arguments+arguments_definition+comma_separated+curly_brackets+default_value+directive+directives+each+enum_value+field+field_definition+inline+input_value+list+object+one+optional_braces+serialize_impl+signature+spread+value+variable.Lts-each as each-lts
+use Rattle.serialize.proofs.+argument+arguments+arguments_def+commas+curly+default+directive+directives+each+enum_value+field+field_def+inline+input+list+object+one+opt_braces+serialize_impl+signature+spread+value+variable.Lts-each as each-lts
 use Rattle.serialize.proofs.enum_value.Reads as enum-value
 use Rattle.serialize.proofs.enum_value.Kinds as enum-value-kinds
-use Rattle.serialize.proofs.+argument+arguments+arguments_definition+comma_separated+curly_brackets+default_value+directive+directives+each+enum_value+field+field_definition+inline+input_value+list+object+one+optional_braces+serialize_impl+signature+spread+value+variable.Lts-enum_value as enum-value-lts
+use Rattle.serialize.proofs.+argument+arguments+arguments_def+commas+curly+default+directive+directives+each+enum_value+field+field_def+inline+input+list+object+one+opt_braces+serialize_impl+signature+spread+value+variable.Lts-enum_value as enum-value-lts
 use Rattle.serialize.proofs.field.Reads as field
 use Rattle.serialize.proofs.field.Kinds as field-kinds
-use Rattle.serialize.proofs.+argument+arguments+arguments_definition+comma_separated+curly_brackets+default_value+directive+directives+each+enum_value+field+field_definition+inline+input_value+list+object+one+optional_braces+serialize_impl+signature+spread+value+variable.Lts-field as field-lts
-use Rattle.serialize.proofs.field_definition.Reads as field-definition
-use Rattle.serialize.proofs.field_definition.Kinds as field-definition-kinds
-use Rattle.serialize.proofs.+argument+arguments+arguments_definition+comma_separated+curly_brackets+default_value+directive+directives+each+enum_value+field+field_definition+inline+input_value+list+object+one+optional_braces+serialize_impl+signature+spread+value+variable.Lts-field_definition as field-definition-lts
+use Rattle.serialize.proofs.+argument+arguments+arguments_def+commas+curly+default+directive+directives+each+enum_value+field+field_def+inline+input+list+object+one+opt_braces+serialize_impl+signature+spread+value+variable.Lts-field as field-lts
+use Rattle.serialize.proofs.field_def.Reads as field-def
+use Rattle.serialize.proofs.field_def.Kinds as field-def-kinds
+use Rattle.serialize.proofs.+argument+arguments+arguments_def+commas+curly+default+directive+directives+each+enum_value+field+field_def+inline+input+list+object+one+opt_braces+serialize_impl+signature+spread+value+variable.Lts-field_def as field-def-lts
 use Rattle.serialize.proofs.inline.Reads as inline
 use Rattle.serialize.proofs.inline.Kinds as inline-kinds
-use Rattle.serialize.proofs.+argument+arguments+arguments_definition+comma_separated+curly_brackets+default_value+directive+directives+each+enum_value+field+field_definition+inline+input_value+list+object+one+optional_braces+serialize_impl+signature+spread+value+variable.Lts-inline as inline-lts
-use Rattle.serialize.proofs.input_value.Reads as input-value
-use Rattle.serialize.proofs.input_value.Kinds as input-value-kinds
-use Rattle.serialize.proofs.+argument+arguments+arguments_definition+comma_separated+curly_brackets+default_value+directive+directives+each+enum_value+field+field_definition+inline+input_value+list+object+one+optional_braces+serialize_impl+signature+spread+value+variable.Lts-input_value as input-value-lts
+use Rattle.serialize.proofs.+argument+arguments+arguments_def+commas+curly+default+directive+directives+each+enum_value+field+field_def+inline+input+list+object+one+opt_braces+serialize_impl+signature+spread+value+variable.Lts-inline as inline-lts
+use Rattle.serialize.proofs.input.Reads as input
+use Rattle.serialize.proofs.input.Kinds as input-kinds
+use Rattle.serialize.proofs.+argument+arguments+arguments_def+commas+curly+default+directive+directives+each+enum_value+field+field_def+inline+input+list+object+one+opt_braces+serialize_impl+signature+spread+value+variable.Lts-input as input-lts
 use Rattle.serialize.proofs.list.Reads as list
 use Rattle.serialize.proofs.list.Kinds as list-kinds
-use Rattle.serialize.proofs.+argument+arguments+arguments_definition+comma_separated+curly_brackets+default_value+directive+directives+each+enum_value+field+field_definition+inline+input_value+list+object+one+optional_braces+serialize_impl+signature+spread+value+variable.Lts-list as list-lts
+use Rattle.serialize.proofs.+argument+arguments+arguments_def+commas+curly+default+directive+directives+each+enum_value+field+field_def+inline+input+list+object+one+opt_braces+serialize_impl+signature+spread+value+variable.Lts-list as list-lts
 use Rattle.serialize.proofs.object.Reads as object
 use Rattle.serialize.proofs.object.Kinds as object-kinds
-use Rattle.serialize.proofs.+argument+arguments+arguments_definition+comma_separated+curly_brackets+default_value+directive+directives+each+enum_value+field+field_definition+inline+input_value+list+object+one+optional_braces+serialize_impl+signature+spread+value+variable.Lts-object as object-lts
+use Rattle.serialize.proofs.+argument+arguments+arguments_def+commas+curly+default+directive+directives+each+enum_value+field+field_def+inline+input+list+object+one+opt_braces+serialize_impl+signature+spread+value+variable.Lts-object as object-lts
 use Rattle.serialize.proofs.one.Reads as one
 use Rattle.serialize.proofs.one.Kinds as one-kinds
-use Rattle.serialize.proofs.+argument+arguments+arguments_definition+comma_separated+curly_brackets+default_value+directive+directives+each+enum_value+field+field_definition+inline+input_value+list+object+one+optional_braces+serialize_impl+signature+spread+value+variable.Lts-one as one-lts
-use Rattle.serialize.proofs.optional_braces.Reads as optional-braces
-use Rattle.serialize.proofs.optional_braces.Kinds as optional-braces-kinds
-use Rattle.serialize.proofs.+argument+arguments+arguments_definition+comma_separated+curly_brackets+default_value+directive+directives+each+enum_value+field+field_definition+inline+input_value+list+object+one+optional_braces+serialize_impl+signature+spread+value+variable.Lts-optional_braces as optional-braces-lts
+use Rattle.serialize.proofs.+argument+arguments+arguments_def+commas+curly+default+directive+directives+each+enum_value+field+field_def+inline+input+list+object+one+opt_braces+serialize_impl+signature+spread+value+variable.Lts-one as one-lts
+use Rattle.serialize.proofs.opt_braces.Reads as opt-braces
+use Rattle.serialize.proofs.opt_braces.Kinds as opt-braces-kinds
+use Rattle.serialize.proofs.+argument+arguments+arguments_def+commas+curly+default+directive+directives+each+enum_value+field+field_def+inline+input+list+object+one+opt_braces+serialize_impl+signature+spread+value+variable.Lts-opt_braces as opt-braces-lts
 use Rattle.serialize.proofs.serialize_impl.Reads as serialize-impl
 use Rattle.serialize.proofs.serialize_impl.Kinds as serialize-impl-kinds
-use Rattle.serialize.proofs.+argument+arguments+arguments_definition+comma_separated+curly_brackets+default_value+directive+directives+each+enum_value+field+field_definition+inline+input_value+list+object+one+optional_braces+serialize_impl+signature+spread+value+variable.Lts-serialize_impl as serialize-impl-lts
+use Rattle.serialize.proofs.+argument+arguments+arguments_def+commas+curly+default+directive+directives+each+enum_value+field+field_def+inline+input+list+object+one+opt_braces+serialize_impl+signature+spread+value+variable.Lts-serialize_impl as serialize-impl-lts
 use Rattle.serialize.proofs.signature.Reads as signature
 use Rattle.serialize.proofs.signature.Kinds as signature-kinds
-use Rattle.serialize.proofs.+argument+arguments+arguments_definition+comma_separated+curly_brackets+default_value+directive+directives+each+enum_value+field+field_definition+inline+input_value+list+object+one+optional_braces+serialize_impl+signature+spread+value+variable.Lts-signature as signature-lts
+use Rattle.serialize.proofs.+argument+arguments+arguments_def+commas+curly+default+directive+directives+each+enum_value+field+field_def+inline+input+list+object+one+opt_braces+serialize_impl+signature+spread+value+variable.Lts-signature as signature-lts
 use Rattle.serialize.proofs.spread.Reads as spread
 use Rattle.serialize.proofs.spread.Kinds as spread-kinds
-use Rattle.serialize.proofs.+argument+arguments+arguments_definition+comma_separated+curly_brackets+default_value+directive+directives+each+enum_value+field+field_definition+inline+input_value+list+object+one+optional_braces+serialize_impl+signature+spread+value+variable.Lts-spread as spread-lts
+use Rattle.serialize.proofs.+argument+arguments+arguments_def+commas+curly+default+directive+directives+each+enum_value+field+field_def+inline+input+list+object+one+opt_braces+serialize_impl+signature+spread+value+variable.Lts-spread as spread-lts
 use Rattle.serialize.proofs.value.Reads as value
 use Rattle.serialize.proofs.value.Kinds as value-kinds
-use Rattle.serialize.proofs.+argument+arguments+arguments_definition+comma_separated+curly_brackets+default_value+directive+directives+each+enum_value+field+field_definition+inline+input_value+list+object+one+optional_braces+serialize_impl+signature+spread+value+variable.Lts-value as value-lts
+use Rattle.serialize.proofs.+argument+arguments+arguments_def+commas+curly+default+directive+directives+each+enum_value+field+field_def+inline+input+list+object+one+opt_braces+serialize_impl+signature+spread+value+variable.Lts-value as value-lts
 use Rattle.serialize.proofs.variable.Reads as variable
 use Rattle.serialize.proofs.variable.Kinds as variable-kinds
-use Rattle.serialize.proofs.+argument+arguments+arguments_definition+comma_separated+curly_brackets+default_value+directive+directives+each+enum_value+field+field_definition+inline+input_value+list+object+one+optional_braces+serialize_impl+signature+spread+value+variable.Lts-variable as variable-lts
+use Rattle.serialize.proofs.+argument+arguments+arguments_def+commas+curly+default+directive+directives+each+enum_value+field+field_def+inline+input+list+object+one+opt_braces+serialize_impl+signature+spread+value+variable.Lts-variable as variable-lts
 use Rattle.layout.proofs.any_marked.Reads as any-marked-reads
 use Rattle.layout.proofs.deeper.Reads as deeper-reads
 use Rattle.layout.proofs.is_next.Reads as is-next-reads
@@ -117,10 +117,10 @@ use Rattle.leaves.proofs.variable_value.Reads as variable-value-reads
 use Rattle.table.proofs.end.Reads as end-reads
 use Rattle.table.proofs.kind.Reads as kind-reads
 use Rattle.types.proofs.serialize_type.Reads as serialize-type-reads
-use Rattle.serialize.proofs.+argument+arguments+arguments_definition+comma_separated+curly_brackets+default_value+directive+directives+each+enum_value+field+field_definition+inline+input_value+list+object+one+optional_braces+serialize_impl+signature+spread+value+variable.{
+use Rattle.serialize.proofs.+argument+arguments+arguments_def+commas+curly+default+directive+directives+each+enum_value+field+field_def+inline+input+list+object+one+opt_braces+serialize_impl+signature+spread+value+variable.{
   statement,
 }
-use Rattle.serialize.proofs.+argument+arguments+arguments_definition+comma_separated+curly_brackets+default_value+directive+directives+each+enum_value+field+field_definition+inline+input_value+list+object+one+optional_braces+serialize_impl+signature+spread+value+variable.Tie.{
+use Rattle.serialize.proofs.+argument+arguments+arguments_def+commas+curly+default+directive+directives+each+enum_value+field+field_def+inline+input+list+object+one+opt_braces+serialize_impl+signature+spread+value+variable.Tie.{
   close,
 }
 
@@ -130,17 +130,17 @@ abbrev μ-argument : Measures 5 argument-kinds.ps ℕ
 abbrev μ-arguments : Measures 5 arguments-kinds.ps ℕ
 μ-arguments κs a = 8 * (a .1 .1 .1 .1 .1 .0) + 4
 
-abbrev μ-arguments-definition : Measures 5 arguments-definition-kinds.ps ℕ
-μ-arguments-definition κs a = 8 * (a .1 .1 .1 .1 .0) + 5
+abbrev μ-arguments-def : Measures 5 arguments-def-kinds.ps ℕ
+μ-arguments-def κs a = 8 * (a .1 .1 .1 .1 .0) + 5
 
-abbrev μ-comma-separated : Measures 7 comma-separated-kinds.ps ℕ
-μ-comma-separated κs a = 8 * (a .1 .1 .1 .1 .1 .1 .1 .0) + 3
+abbrev μ-commas : Measures 7 commas-kinds.ps ℕ
+μ-commas κs a = 8 * (a .1 .1 .1 .1 .1 .1 .1 .0) + 3
 
-abbrev μ-curly-brackets : Measures 5 curly-brackets-kinds.ps ℕ
-μ-curly-brackets κs a = 8 * (a .1 .1 .1 .1 .1 .0) + 3
+abbrev μ-curly : Measures 5 curly-kinds.ps ℕ
+μ-curly κs a = 8 * (a .1 .1 .1 .1 .1 .0) + 3
 
-abbrev μ-default-value : Measures 5 default-value-kinds.ps ℕ
-μ-default-value κs a = 8 * (a .1 .1 .1 .1 .0) + 2
+abbrev μ-default : Measures 5 default-kinds.ps ℕ
+μ-default κs a = 8 * (a .1 .1 .1 .1 .0) + 2
 
 abbrev μ-directive : Measures 5 directive-kinds.ps ℕ
 μ-directive κs a = 8 * (a .1 .1 .1 .1 .1 .0) + 6
@@ -157,14 +157,14 @@ abbrev μ-enum-value : Measures 5 enum-value-kinds.ps ℕ
 abbrev μ-field : Measures 5 field-kinds.ps ℕ
 μ-field κs a = 8 * (a .1 .1 .1 .1 .1 .0) + 6
 
-abbrev μ-field-definition : Measures 5 field-definition-kinds.ps ℕ
-μ-field-definition κs a = 8 * (a .1 .1 .1 .1 .1 .0) + 6
+abbrev μ-field-def : Measures 5 field-def-kinds.ps ℕ
+μ-field-def κs a = 8 * (a .1 .1 .1 .1 .1 .0) + 6
 
 abbrev μ-inline : Measures 5 inline-kinds.ps ℕ
 μ-inline κs a = 8 * (a .1 .1 .1 .1 .1 .0) + 6
 
-abbrev μ-input-value : Measures 5 input-value-kinds.ps ℕ
-μ-input-value κs a = 8 * (a .1 .1 .1 .1 .1 .0) + 6
+abbrev μ-input : Measures 5 input-kinds.ps ℕ
+μ-input κs a = 8 * (a .1 .1 .1 .1 .1 .0) + 6
 
 abbrev μ-list : Measures 5 list-kinds.ps ℕ
 μ-list κs a = 8 * (a .1 .1 .1 .1 .0) + 4
@@ -175,8 +175,8 @@ abbrev μ-object : Measures 5 object-kinds.ps ℕ
 abbrev μ-one : Measures 5 one-kinds.ps ℕ
 μ-one κs a = 8 * (a .1 .1 .1 .1 .0) + 1
 
-abbrev μ-optional-braces : Measures 5 optional-braces-kinds.ps ℕ
-μ-optional-braces κs a = 8 * (a .1 .1 .1 .1 .1 .0) + 4
+abbrev μ-opt-braces : Measures 5 opt-braces-kinds.ps ℕ
+μ-opt-braces κs a = 8 * (a .1 .1 .1 .1 .1 .0) + 4
 
 abbrev μ-serialize-impl : Measures 5 serialize-impl-kinds.ps ℕ
 μ-serialize-impl κs a = 8 * (a .1 .1 .1 .1 .0) + 0
@@ -207,65 +207,65 @@ abbrev arguments-below : ℕ → In 5 arguments-kinds.ps
 arguments-below t =
     and 5 arguments-kinds.ps (falls 5 arguments-kinds.ps _<_ μ-arguments t) arguments.Pre
 
-abbrev arguments-definition-at : ℕ → In 5 arguments-definition-kinds.ps
-arguments-definition-at t =
+abbrev arguments-def-at : ℕ → In 5 arguments-def-kinds.ps
+arguments-def-at t =
     and
     5
-    arguments-definition-kinds.ps
-    (is 5 arguments-definition-kinds.ps μ-arguments-definition t)
-    arguments-definition.Pre
+    arguments-def-kinds.ps
+    (is 5 arguments-def-kinds.ps μ-arguments-def t)
+    arguments-def.Pre
 
-abbrev arguments-definition-below : ℕ → In 5 arguments-definition-kinds.ps
-arguments-definition-below t =
+abbrev arguments-def-below : ℕ → In 5 arguments-def-kinds.ps
+arguments-def-below t =
     and
     5
-    arguments-definition-kinds.ps
-    (falls 5 arguments-definition-kinds.ps _<_ μ-arguments-definition t)
-    arguments-definition.Pre
+    arguments-def-kinds.ps
+    (falls 5 arguments-def-kinds.ps _<_ μ-arguments-def t)
+    arguments-def.Pre
 
-abbrev comma-separated-at : ℕ → In 7 comma-separated-kinds.ps
-comma-separated-at t =
+abbrev commas-at : ℕ → In 7 commas-kinds.ps
+commas-at t =
     and
     7
-    comma-separated-kinds.ps
-    (is 7 comma-separated-kinds.ps μ-comma-separated t)
-    comma-separated.Pre
+    commas-kinds.ps
+    (is 7 commas-kinds.ps μ-commas t)
+    commas.Pre
 
-abbrev comma-separated-below : ℕ → In 7 comma-separated-kinds.ps
-comma-separated-below t =
+abbrev commas-below : ℕ → In 7 commas-kinds.ps
+commas-below t =
     and
     7
-    comma-separated-kinds.ps
-    (falls 7 comma-separated-kinds.ps _<_ μ-comma-separated t)
-    comma-separated.Pre
+    commas-kinds.ps
+    (falls 7 commas-kinds.ps _<_ μ-commas t)
+    commas.Pre
 
-abbrev curly-brackets-at : ℕ → In 5 curly-brackets-kinds.ps
-curly-brackets-at t =
+abbrev curly-at : ℕ → In 5 curly-kinds.ps
+curly-at t =
     and
     5
-    curly-brackets-kinds.ps
-    (is 5 curly-brackets-kinds.ps μ-curly-brackets t)
-    curly-brackets.Pre
+    curly-kinds.ps
+    (is 5 curly-kinds.ps μ-curly t)
+    curly.Pre
 
-abbrev curly-brackets-below : ℕ → In 5 curly-brackets-kinds.ps
-curly-brackets-below t =
+abbrev curly-below : ℕ → In 5 curly-kinds.ps
+curly-below t =
     and
     5
-    curly-brackets-kinds.ps
-    (falls 5 curly-brackets-kinds.ps _<_ μ-curly-brackets t)
-    curly-brackets.Pre
+    curly-kinds.ps
+    (falls 5 curly-kinds.ps _<_ μ-curly t)
+    curly.Pre
 
-abbrev default-value-at : ℕ → In 5 default-value-kinds.ps
-default-value-at t =
-    and 5 default-value-kinds.ps (is 5 default-value-kinds.ps μ-default-value t) default-value.Pre
+abbrev default-at : ℕ → In 5 default-kinds.ps
+default-at t =
+    and 5 default-kinds.ps (is 5 default-kinds.ps μ-default t) default.Pre
 
-abbrev default-value-below : ℕ → In 5 default-value-kinds.ps
-default-value-below t =
+abbrev default-below : ℕ → In 5 default-kinds.ps
+default-below t =
     and
     5
-    default-value-kinds.ps
-    (falls 5 default-value-kinds.ps _<_ μ-default-value t)
-    default-value.Pre
+    default-kinds.ps
+    (falls 5 default-kinds.ps _<_ μ-default t)
+    default.Pre
 
 abbrev directive-at : ℕ → In 5 directive-kinds.ps
 directive-at t = and 5 directive-kinds.ps (is 5 directive-kinds.ps μ-directive t) directive.Pre
@@ -302,21 +302,21 @@ field-at t = and 5 field-kinds.ps (is 5 field-kinds.ps μ-field t) field.Pre
 abbrev field-below : ℕ → In 5 field-kinds.ps
 field-below t = and 5 field-kinds.ps (falls 5 field-kinds.ps _<_ μ-field t) field.Pre
 
-abbrev field-definition-at : ℕ → In 5 field-definition-kinds.ps
-field-definition-at t =
+abbrev field-def-at : ℕ → In 5 field-def-kinds.ps
+field-def-at t =
     and
     5
-    field-definition-kinds.ps
-    (is 5 field-definition-kinds.ps μ-field-definition t)
-    field-definition.Pre
+    field-def-kinds.ps
+    (is 5 field-def-kinds.ps μ-field-def t)
+    field-def.Pre
 
-abbrev field-definition-below : ℕ → In 5 field-definition-kinds.ps
-field-definition-below t =
+abbrev field-def-below : ℕ → In 5 field-def-kinds.ps
+field-def-below t =
     and
     5
-    field-definition-kinds.ps
-    (falls 5 field-definition-kinds.ps _<_ μ-field-definition t)
-    field-definition.Pre
+    field-def-kinds.ps
+    (falls 5 field-def-kinds.ps _<_ μ-field-def t)
+    field-def.Pre
 
 abbrev inline-at : ℕ → In 5 inline-kinds.ps
 inline-at t = and 5 inline-kinds.ps (is 5 inline-kinds.ps μ-inline t) inline.Pre
@@ -324,13 +324,13 @@ inline-at t = and 5 inline-kinds.ps (is 5 inline-kinds.ps μ-inline t) inline.Pr
 abbrev inline-below : ℕ → In 5 inline-kinds.ps
 inline-below t = and 5 inline-kinds.ps (falls 5 inline-kinds.ps _<_ μ-inline t) inline.Pre
 
-abbrev input-value-at : ℕ → In 5 input-value-kinds.ps
-input-value-at t =
-    and 5 input-value-kinds.ps (is 5 input-value-kinds.ps μ-input-value t) input-value.Pre
+abbrev input-at : ℕ → In 5 input-kinds.ps
+input-at t =
+    and 5 input-kinds.ps (is 5 input-kinds.ps μ-input t) input.Pre
 
-abbrev input-value-below : ℕ → In 5 input-value-kinds.ps
-input-value-below t =
-    and 5 input-value-kinds.ps (falls 5 input-value-kinds.ps _<_ μ-input-value t) input-value.Pre
+abbrev input-below : ℕ → In 5 input-kinds.ps
+input-below t =
+    and 5 input-kinds.ps (falls 5 input-kinds.ps _<_ μ-input t) input.Pre
 
 abbrev list-at : ℕ → In 5 list-kinds.ps
 list-at t = and 5 list-kinds.ps (is 5 list-kinds.ps μ-list t) list.Pre
@@ -350,21 +350,21 @@ one-at t = and 5 one-kinds.ps (is 5 one-kinds.ps μ-one t) one.Pre
 abbrev one-below : ℕ → In 5 one-kinds.ps
 one-below t = and 5 one-kinds.ps (falls 5 one-kinds.ps _<_ μ-one t) one.Pre
 
-abbrev optional-braces-at : ℕ → In 5 optional-braces-kinds.ps
-optional-braces-at t =
+abbrev opt-braces-at : ℕ → In 5 opt-braces-kinds.ps
+opt-braces-at t =
     and
     5
-    optional-braces-kinds.ps
-    (is 5 optional-braces-kinds.ps μ-optional-braces t)
-    optional-braces.Pre
+    opt-braces-kinds.ps
+    (is 5 opt-braces-kinds.ps μ-opt-braces t)
+    opt-braces.Pre
 
-abbrev optional-braces-below : ℕ → In 5 optional-braces-kinds.ps
-optional-braces-below t =
+abbrev opt-braces-below : ℕ → In 5 opt-braces-kinds.ps
+opt-braces-below t =
     and
     5
-    optional-braces-kinds.ps
-    (falls 5 optional-braces-kinds.ps _<_ μ-optional-braces t)
-    optional-braces.Pre
+    opt-braces-kinds.ps
+    (falls 5 opt-braces-kinds.ps _<_ μ-opt-braces t)
+    opt-braces.Pre
 
 abbrev serialize-impl-at : ℕ → In 5 serialize-impl-kinds.ps
 serialize-impl-at t =
@@ -412,19 +412,19 @@ abbrev claims-argument : ℕ → argument-lts.Claims
 claims-argument t = (name-reads.Asked, name-reads.Learnt, token-reads.Asked, token-reads.Learnt, one-below t, one.Post)
 
 abbrev claims-arguments : ℕ → arguments-lts.Claims
-claims-arguments t = (is-next-reads.Asked, is-next-reads.Learnt, on-single-line-reads.Asked, on-single-line-reads.Learnt, comma-separated-below t, comma-separated.Post)
+claims-arguments t = (is-next-reads.Asked, is-next-reads.Learnt, on-single-line-reads.Asked, on-single-line-reads.Learnt, commas-below t, commas.Post)
 
-abbrev claims-arguments-definition : ℕ → arguments-definition-lts.Claims
-claims-arguments-definition t = (is-next-reads.Asked, is-next-reads.Learnt, signature-below t, signature.Post)
+abbrev claims-arguments-def : ℕ → arguments-def-lts.Claims
+claims-arguments-def t = (is-next-reads.Asked, is-next-reads.Learnt, signature-below t, signature.Post)
 
-abbrev claims-comma-separated : ℕ → comma-separated-lts.Claims
-claims-comma-separated t = (token-reads.Asked, token-reads.Learnt, is-next-reads.Asked, is-next-reads.Learnt, deeper-reads.Asked, deeper-reads.Learnt, new-line-reads.Asked, new-line-reads.Learnt, one-below t, one.Post, each-below t, each.Post, trailing-comma-reads.Asked, trailing-comma-reads.Learnt)
+abbrev claims-commas : ℕ → commas-lts.Claims
+claims-commas t = (token-reads.Asked, token-reads.Learnt, is-next-reads.Asked, is-next-reads.Learnt, deeper-reads.Asked, deeper-reads.Learnt, new-line-reads.Asked, new-line-reads.Learnt, one-below t, one.Post, each-below t, each.Post, trailing-comma-reads.Asked, trailing-comma-reads.Learnt)
 
-abbrev claims-curly-brackets : ℕ → curly-brackets-lts.Claims
-claims-curly-brackets t = (token-reads.Asked, token-reads.Learnt, is-next-reads.Asked, is-next-reads.Learnt, deeper-reads.Asked, deeper-reads.Learnt, each-below t, each.Post, new-line-or-space-reads.Asked, new-line-or-space-reads.Learnt)
+abbrev claims-curly : ℕ → curly-lts.Claims
+claims-curly t = (token-reads.Asked, token-reads.Learnt, is-next-reads.Asked, is-next-reads.Learnt, deeper-reads.Asked, deeper-reads.Learnt, each-below t, each.Post, new-line-or-space-reads.Asked, new-line-or-space-reads.Learnt)
 
-abbrev claims-default-value : ℕ → default-value-lts.Claims
-claims-default-value t = (is-next-reads.Asked, is-next-reads.Learnt, token-reads.Asked, token-reads.Learnt, one-below t, one.Post)
+abbrev claims-default : ℕ → default-lts.Claims
+claims-default t = (is-next-reads.Asked, is-next-reads.Learnt, token-reads.Asked, token-reads.Learnt, one-below t, one.Post)
 
 abbrev claims-directive : ℕ → directive-lts.Claims
 claims-directive t = (token-reads.Asked, token-reads.Learnt, name-reads.Asked, name-reads.Learnt, arguments-below t, arguments.Post)
@@ -439,34 +439,34 @@ abbrev claims-enum-value : ℕ → enum-value-lts.Claims
 claims-enum-value t = (serialize-description-reads.Asked, serialize-description-reads.Learnt, name-reads.Asked, name-reads.Learnt, directives-below t, directives.Post)
 
 abbrev claims-field : ℕ → field-lts.Claims
-claims-field t = (alias-reads.Asked, alias-reads.Learnt, name-reads.Asked, name-reads.Learnt, arguments-below t, arguments.Post, directives-below t, directives.Post, optional-braces-below t, optional-braces.Post)
+claims-field t = (alias-reads.Asked, alias-reads.Learnt, name-reads.Asked, name-reads.Learnt, arguments-below t, arguments.Post, directives-below t, directives.Post, opt-braces-below t, opt-braces.Post)
 
-abbrev claims-field-definition : ℕ → field-definition-lts.Claims
-claims-field-definition t = (serialize-description-reads.Asked, serialize-description-reads.Learnt, name-reads.Asked, name-reads.Learnt, arguments-definition-below t, arguments-definition.Post, token-reads.Asked, token-reads.Learnt, one-below t, one.Post, directives-below t, directives.Post)
+abbrev claims-field-def : ℕ → field-def-lts.Claims
+claims-field-def t = (serialize-description-reads.Asked, serialize-description-reads.Learnt, name-reads.Asked, name-reads.Learnt, arguments-def-below t, arguments-def.Post, token-reads.Asked, token-reads.Learnt, one-below t, one.Post, directives-below t, directives.Post)
 
 abbrev claims-inline : ℕ → inline-lts.Claims
-claims-inline t = (token-reads.Asked, token-reads.Learnt, if-named-reads.Asked, if-named-reads.Learnt, directives-below t, directives.Post, curly-brackets-below t, curly-brackets.Post)
+claims-inline t = (token-reads.Asked, token-reads.Learnt, if-named-reads.Asked, if-named-reads.Learnt, directives-below t, directives.Post, curly-below t, curly.Post)
 
-abbrev claims-input-value : ℕ → input-value-lts.Claims
-claims-input-value t = (serialize-description-reads.Asked, serialize-description-reads.Learnt, name-reads.Asked, name-reads.Learnt, token-reads.Asked, token-reads.Learnt, one-below t, one.Post, default-value-below t, default-value.Post, directives-below t, directives.Post)
+abbrev claims-input : ℕ → input-lts.Claims
+claims-input t = (serialize-description-reads.Asked, serialize-description-reads.Learnt, name-reads.Asked, name-reads.Learnt, token-reads.Asked, token-reads.Learnt, one-below t, one.Post, default-below t, default.Post, directives-below t, directives.Post)
 
 abbrev claims-list : ℕ → list-lts.Claims
-claims-list t = (comma-separated-below t, comma-separated.Post)
+claims-list t = (commas-below t, commas.Post)
 
 abbrev claims-object : ℕ → object-lts.Claims
-claims-object t = (comma-separated-below t, comma-separated.Post)
+claims-object t = (commas-below t, commas.Post)
 
 abbrev claims-one : ℕ → one-lts.Claims
 claims-one t = (serialize-impl-below t, serialize-impl.Post, past-reads.Asked, past-reads.Learnt)
 
-abbrev claims-optional-braces : ℕ → optional-braces-lts.Claims
-claims-optional-braces t = (is-next-reads.Asked, is-next-reads.Learnt, token-reads.Asked, token-reads.Learnt, curly-brackets-below t, curly-brackets.Post)
+abbrev claims-opt-braces : ℕ → opt-braces-lts.Claims
+claims-opt-braces t = (is-next-reads.Asked, is-next-reads.Learnt, token-reads.Asked, token-reads.Learnt, curly-below t, curly.Post)
 
 abbrev claims-serialize-impl : ℕ → serialize-impl-lts.Claims
-claims-serialize-impl t = (kind-reads.Asked, kind-reads.Learnt, end-reads.Asked, end-reads.Learnt, string-value-reads.Asked, string-value-reads.Learnt, directive-below t, directive.Post, argument-below t, argument.Post, variable-below t, variable.Post, input-value-below t, input-value.Post, field-definition-below t, field-definition.Post, enum-value-below t, enum-value.Post, root-operation-reads.Asked, root-operation-reads.Learnt, name-reads.Asked, name-reads.Learnt, location-reads.Asked, location-reads.Learnt, field-below t, field.Post, spread-below t, spread.Post, inline-below t, inline.Post, serialize-type-reads.Asked, serialize-type-reads.Learnt, value-below t, value.Post)
+claims-serialize-impl t = (kind-reads.Asked, kind-reads.Learnt, end-reads.Asked, end-reads.Learnt, string-value-reads.Asked, string-value-reads.Learnt, directive-below t, directive.Post, argument-below t, argument.Post, variable-below t, variable.Post, input-below t, input.Post, field-def-below t, field-def.Post, enum-value-below t, enum-value.Post, root-operation-reads.Asked, root-operation-reads.Learnt, name-reads.Asked, name-reads.Learnt, location-reads.Asked, location-reads.Learnt, field-below t, field.Post, spread-below t, spread.Post, inline-below t, inline.Post, serialize-type-reads.Asked, serialize-type-reads.Learnt, value-below t, value.Post)
 
 abbrev claims-signature : ℕ → signature-lts.Claims
-claims-signature t = (any-marked-reads.Asked, any-marked-reads.Learnt, single-line-unless-reads.Asked, single-line-unless-reads.Learnt, comma-separated-below t, comma-separated.Post)
+claims-signature t = (any-marked-reads.Asked, any-marked-reads.Learnt, single-line-unless-reads.Asked, single-line-unless-reads.Learnt, commas-below t, commas.Post)
 
 abbrev claims-spread : ℕ → spread-lts.Claims
 claims-spread t = (token-reads.Asked, token-reads.Learnt, name-reads.Asked, name-reads.Learnt, directives-below t, directives.Post)
@@ -475,7 +475,7 @@ abbrev claims-value : ℕ → value-lts.Claims
 claims-value t = (token-reads.Asked, token-reads.Learnt, boolean-reads.Asked, boolean-reads.Learnt, name-reads.Asked, name-reads.Learnt, string-value-reads.Asked, string-value-reads.Learnt, variable-value-reads.Asked, variable-value-reads.Learnt, list-below t, list.Post, object-below t, object.Post)
 
 abbrev claims-variable : ℕ → variable-lts.Claims
-claims-variable t = (token-reads.Asked, token-reads.Learnt, name-reads.Asked, name-reads.Learnt, one-below t, one.Post, default-value-below t, default-value.Post, directives-below t, directives.Post)
+claims-variable t = (token-reads.Asked, token-reads.Learnt, name-reads.Asked, name-reads.Learnt, one-below t, one.Post, default-below t, default.Post, directives-below t, directives.Post)
 
 argument-name-requires : (t : ℕ) → argument-lts.Need-name-requires (claims-argument t) (argument-at t) argument.Post
 argument-name-requires t c κs = (c .before .before .before .before .before .pre) .1 .text
@@ -499,36 +499,36 @@ argument-same-length t c = wrote-length (argument-returns t c .walked .wrote)
 arguments-is-next-requires : (t : ℕ) → arguments-lts.Need-is-next-requires (claims-arguments t) (arguments-at t) arguments.Post
 arguments-is-next-requires t c κs = rest-within ((c .before .before .before .before .pre) .1 .rest)
 
-arguments-slice-aggregate-comma-separated :
-    (t : ℕ) → arguments-lts.Need-slice-aggregate-comma-separated (
+arguments-slice-aggregate-commas :
+    (t : ℕ) → arguments-lts.Need-slice-aggregate-commas (
       is-next-reads.Asked,
       is-next-reads.Learnt,
       on-single-line-reads.Asked,
       on-single-line-reads.Learnt,
-      comma-separated-below t,
-      comma-separated.Post,
+      commas-below t,
+      commas.Post,
     ) (arguments-at t) arguments.Post
-arguments-slice-aggregate-comma-separated t c = refl
+arguments-slice-aggregate-commas t c = refl
 
-arguments-slice-aggregate-comma-separated-2 :
-    (t : ℕ) → arguments-lts.Need-slice-aggregate-comma-separated-2 (
+arguments-slice-aggregate-commas-2 :
+    (t : ℕ) → arguments-lts.Need-slice-aggregate-commas-2 (
       is-next-reads.Asked,
       is-next-reads.Learnt,
       on-single-line-reads.Asked,
       on-single-line-reads.Learnt,
-      comma-separated-below t,
-      comma-separated.Post,
+      commas-below t,
+      commas.Post,
     ) (arguments-at t) arguments.Post
-arguments-slice-aggregate-comma-separated-2 t c = refl
+arguments-slice-aggregate-commas-2 t c = refl
 
 arguments-on-single-line-requires : (t : ℕ) → arguments-lts.Need-on-single-line-requires (claims-arguments t) (arguments-at t) arguments.Post
 arguments-on-single-line-requires t c κs = tt
 
-arguments-comma-separated-requires : (t : ℕ) → arguments-lts.Need-comma-separated-requires (claims-arguments t) (arguments-at t) arguments.Post
-arguments-comma-separated-requires t c κs = (omega (arith, (c .before .before .before .before .before .before .before .before .before .before .pre) .0), jobs-single ((c .before .before .before .before .before .before .before .before .before .before .args) .state) ((c .before .before .before .before .before .before .before .before .before .before .pre) .1) ((c .before .on-single-line) .ensures))
+arguments-commas-requires : (t : ℕ) → arguments-lts.Need-commas-requires (claims-arguments t) (arguments-at t) arguments.Post
+arguments-commas-requires t c κs = (omega (arith, (c .before .before .before .before .before .before .before .before .before .before .pre) .0), jobs-single ((c .before .before .before .before .before .before .before .before .before .before .args) .state) ((c .before .before .before .before .before .before .before .before .before .before .pre) .1) ((c .before .on-single-line) .ensures))
 
 arguments-returns : (t : ℕ) → arguments-lts.Need-returns (claims-arguments t) (arguments-at t) arguments.Post
-arguments-returns t c = λ n. a-child _ (rest-ranged ((c .before .before .before .before .before .before .before .before .before .before .before .before .before .pre) .1 .rest)) _ (sym ((c .before .before .before .before .before .before .before .before .is-next) .ensures) ∙ (c .before .before .before .before .before .before .before .if1) .taken) (did-single-line _ ((c .before .before .before .before .on-single-line) .ensures _) ((c .before .before .comma-separated) .ensures))
+arguments-returns t c = λ n. a-child _ (rest-ranged ((c .before .before .before .before .before .before .before .before .before .before .before .before .before .pre) .1 .rest)) _ (sym ((c .before .before .before .before .before .before .before .before .is-next) .ensures) ∙ (c .before .before .before .before .before .before .before .if1) .taken) (did-single-line _ ((c .before .before .before .before .on-single-line) .ensures _) ((c .before .before .commas) .ensures))
 
 arguments-same-length : (t : ℕ) → arguments-lts.Need-same-length (claims-arguments t) (arguments-at t) arguments.Post
 arguments-same-length t c = wrote-length (arguments-returns t c 0 .walked .wrote)
@@ -536,47 +536,47 @@ arguments-same-length t c = wrote-length (arguments-returns t c 0 .walked .wrote
 arguments-returns-2 : (t : ℕ) → arguments-lts.Need-returns-2 (claims-arguments t) (arguments-at t) arguments.Post
 arguments-returns-2 t c = λ n. no-child (commaSeparated singleLine (ascii "(") (ascii ")") (ofKind _) ∷ []) (rest-ranged ((c .before .before .before .before .before .before .pre) .1 .rest)) _ refl (sym ((c .before .is-next) .ensures) ∙ (c .if1) .left) (kept-none (record { place = omega arith; size = omega arith }))
 
-arguments-definition-is-next-requires : (t : ℕ) → arguments-definition-lts.Need-is-next-requires (claims-arguments-definition t) (arguments-definition-at t) arguments-definition.Post
-arguments-definition-is-next-requires t c κs = rest-within ((c .before .before .before .before .pre) .1 .rest)
+arguments-def-is-next-requires : (t : ℕ) → arguments-def-lts.Need-is-next-requires (claims-arguments-def t) (arguments-def-at t) arguments-def.Post
+arguments-def-is-next-requires t c κs = rest-within ((c .before .before .before .before .pre) .1 .rest)
 
-arguments-definition-signature-requires :
-    (t : ℕ) → arguments-definition-lts.Need-signature-requires (
+arguments-def-signature-requires :
+    (t : ℕ) → arguments-def-lts.Need-signature-requires (
       is-next-reads.Asked,
       is-next-reads.Learnt,
       signature-below t,
       signature.Post,
-    ) (arguments-definition-at t) arguments-definition.Post
-arguments-definition-signature-requires t c κs = (omega (arith, (c .before .before .before .before .before .before .before .pre) .0), (c .before .before .before .before .before .before .before .pre) .1)
+    ) (arguments-def-at t) arguments-def.Post
+arguments-def-signature-requires t c κs = (omega (arith, (c .before .before .before .before .before .before .before .pre) .0), (c .before .before .before .before .before .before .before .pre) .1)
 
-arguments-definition-returns : (t : ℕ) → arguments-definition-lts.Need-returns (claims-arguments-definition t) (arguments-definition-at t) arguments-definition.Post
-arguments-definition-returns t c = λ n. a-child _ (rest-ranged ((c .before .before .before .before .before .before .before .before .before .before .pre) .1 .rest)) (ofKind 22) (sym ((c .before .before .before .before .before .is-next) .ensures) ∙ (c .before .before .before .before .if1) .taken) ((c .before .before .signature) .ensures n)
+arguments-def-returns : (t : ℕ) → arguments-def-lts.Need-returns (claims-arguments-def t) (arguments-def-at t) arguments-def.Post
+arguments-def-returns t c = λ n. a-child _ (rest-ranged ((c .before .before .before .before .before .before .before .before .before .before .pre) .1 .rest)) (ofKind 22) (sym ((c .before .before .before .before .before .is-next) .ensures) ∙ (c .before .before .before .before .if1) .taken) ((c .before .before .signature) .ensures n)
 
-arguments-definition-same-length : (t : ℕ) → arguments-definition-lts.Need-same-length (claims-arguments-definition t) (arguments-definition-at t) arguments-definition.Post
-arguments-definition-same-length t c = wrote-length (arguments-definition-returns t c 0 .walked .wrote)
+arguments-def-same-length : (t : ℕ) → arguments-def-lts.Need-same-length (claims-arguments-def t) (arguments-def-at t) arguments-def.Post
+arguments-def-same-length t c = wrote-length (arguments-def-returns t c 0 .walked .wrote)
 
-arguments-definition-returns-2 : (t : ℕ) → arguments-definition-lts.Need-returns-2 (claims-arguments-definition t) (arguments-definition-at t) arguments-definition.Post
-arguments-definition-returns-2 t c = λ n. no-child (commaSeparated singleLineUnlessMarked (ascii "(") (ascii ")") (ofKind 22) ∷ []) (rest-ranged ((c .before .before .before .before .before .before .pre) .1 .rest)) (ofKind 22) refl (sym ((c .before .is-next) .ensures) ∙ (c .if1) .left) (kept-none (record { place = omega arith; size = omega arith }))
+arguments-def-returns-2 : (t : ℕ) → arguments-def-lts.Need-returns-2 (claims-arguments-def t) (arguments-def-at t) arguments-def.Post
+arguments-def-returns-2 t c = λ n. no-child (commaSeparated singleLineUnlessMarked (ascii "(") (ascii ")") (ofKind 22) ∷ []) (rest-ranged ((c .before .before .before .before .before .before .pre) .1 .rest)) (ofKind 22) refl (sym ((c .before .is-next) .ensures) ∙ (c .if1) .left) (kept-none (record { place = omega arith; size = omega arith }))
 
-comma-separated-token-requires : (t : ℕ) → comma-separated-lts.Need-token-requires (claims-comma-separated t) (comma-separated-at t) comma-separated.Post
-comma-separated-token-requires t c κs = tt
+commas-token-requires : (t : ℕ) → commas-lts.Need-token-requires (claims-commas t) (commas-at t) commas.Post
+commas-token-requires t c κs = tt
 
-comma-separated-is-next-requires : (t : ℕ) → comma-separated-lts.Need-is-next-requires (claims-comma-separated t) (comma-separated-at t) comma-separated.Post
-comma-separated-is-next-requires t c κs = rest-within ((c .before .before .before .before .before .before .before .before .before .before .pre) .1 .rest)
+commas-is-next-requires : (t : ℕ) → commas-lts.Need-is-next-requires (claims-commas t) (commas-at t) commas.Post
+commas-is-next-requires t c κs = rest-within ((c .before .before .before .before .before .before .before .before .before .before .pre) .1 .rest)
 
-comma-separated-deeper-requires : (t : ℕ) → comma-separated-lts.Need-deeper-requires (claims-comma-separated t) (comma-separated-at t) comma-separated.Post
-comma-separated-deeper-requires t c κs = omega (arith, (c .before .before .before .before .before .before .before .before .before .before .before .before .pre) .1 .level)
+commas-deeper-requires : (t : ℕ) → commas-lts.Need-deeper-requires (claims-commas t) (commas-at t) commas.Post
+commas-deeper-requires t c κs = omega (arith, (c .before .before .before .before .before .before .before .before .before .before .before .before .pre) .1 .level)
 
-comma-separated-new-line-requires : (t : ℕ) → comma-separated-lts.Need-new-line-requires (claims-comma-separated t) (comma-separated-at t) comma-separated.Post
-comma-separated-new-line-requires t c κs = tt
+commas-new-line-requires : (t : ℕ) → commas-lts.Need-new-line-requires (claims-commas t) (commas-at t) commas.Post
+commas-new-line-requires t c κs = tt
 
-comma-separated-one-requires : (t : ℕ) → comma-separated-lts.Need-one-requires (claims-comma-separated t) (comma-separated-at t) comma-separated.Post
-comma-separated-one-requires t c κs = (omega (arith, (c .before .before .before .before .before .before .before .before .before .before .before .before .before .before .before .before .before .before .pre) .0), jobs-deeper _ (jobs-kept (jobs-kept ((c .before .before .before .before .before .before .before .before .before .before .before .before .before .before .before .before .before .before .pre) .1) ((c .before .before .before .before .before .before .before .before .before .before .token) .ensures)) ((c .before .before .before .new-line) .ensures)) ((c .before .before .before .before .before .deeper) .ensures))
+commas-one-requires : (t : ℕ) → commas-lts.Need-one-requires (claims-commas t) (commas-at t) commas.Post
+commas-one-requires t c κs = (omega (arith, (c .before .before .before .before .before .before .before .before .before .before .before .before .before .before .before .before .before .before .pre) .0), jobs-deeper _ (jobs-kept (jobs-kept ((c .before .before .before .before .before .before .before .before .before .before .before .before .before .before .before .before .before .before .pre) .1) ((c .before .before .before .before .before .before .before .before .before .before .token) .ensures)) ((c .before .before .before .new-line) .ensures)) ((c .before .before .before .before .before .deeper) .ensures))
 
-comma-separated-each-requires : (t : ℕ) → comma-separated-lts.Need-each-requires (claims-comma-separated t) (comma-separated-at t) comma-separated.Post
-comma-separated-each-requires t c κs = (omega (arith, (c .before .before .before .before .before .before .before .before .before .before .before .before .before .before .before .before .before .before .before .before .before .before .pre) .0), jobs-deeper _ (jobs-walked (jobs-kept (jobs-kept ((c .before .before .before .before .before .before .before .before .before .before .before .before .before .before .before .before .before .before .before .before .before .before .pre) .1) ((c .before .before .before .before .before .before .before .before .before .before .before .before .before .before .token) .ensures)) ((c .before .before .before .before .before .before .before .new-line) .ensures)) ((c .before .before .before .one) .ensures)) ((c .before .before .before .before .before .before .before .before .before .deeper) .ensures))
+commas-each-requires : (t : ℕ) → commas-lts.Need-each-requires (claims-commas t) (commas-at t) commas.Post
+commas-each-requires t c κs = (omega (arith, (c .before .before .before .before .before .before .before .before .before .before .before .before .before .before .before .before .before .before .before .before .before .before .pre) .0), jobs-deeper _ (jobs-walked (jobs-kept (jobs-kept ((c .before .before .before .before .before .before .before .before .before .before .before .before .before .before .before .before .before .before .before .before .before .before .pre) .1) ((c .before .before .before .before .before .before .before .before .before .before .before .before .before .before .token) .ensures)) ((c .before .before .before .before .before .before .before .new-line) .ensures)) ((c .before .before .before .one) .ensures)) ((c .before .before .before .before .before .before .before .before .before .deeper) .ensures))
 
-comma-separated-trailing-comma-requires :
-    (t : ℕ) → comma-separated-lts.Need-trailing-comma-requires (
+commas-trailing-comma-requires :
+    (t : ℕ) → commas-lts.Need-trailing-comma-requires (
       token-reads.Asked,
       token-reads.Learnt,
       is-next-reads.Asked,
@@ -591,47 +591,47 @@ comma-separated-trailing-comma-requires :
       each.Post,
       trailing-comma-reads.Asked,
       trailing-comma-reads.Learnt,
-    ) (comma-separated-at t) comma-separated.Post
-comma-separated-trailing-comma-requires t c κs = tt
+    ) (commas-at t) commas.Post
+commas-trailing-comma-requires t c κs = tt
 
-comma-separated-new-line-requires-2 : (t : ℕ) → comma-separated-lts.Need-new-line-requires-2 (claims-comma-separated t) (comma-separated-at t) comma-separated.Post
-comma-separated-new-line-requires-2 t c κs = tt
+commas-new-line-requires-2 : (t : ℕ) → commas-lts.Need-new-line-requires-2 (claims-commas t) (commas-at t) commas.Post
+commas-new-line-requires-2 t c κs = tt
 
-comma-separated-token-requires-2 : (t : ℕ) → comma-separated-lts.Need-token-requires-2 (claims-comma-separated t) (comma-separated-at t) comma-separated.Post
-comma-separated-token-requires-2 t c κs = tt
+commas-token-requires-2 : (t : ℕ) → commas-lts.Need-token-requires-2 (claims-commas t) (commas-at t) commas.Post
+commas-token-requires-2 t c κs = tt
 
-comma-separated-returns : (t : ℕ) → comma-separated-lts.Need-returns (claims-comma-separated t) (comma-separated-at t) comma-separated.Post
-comma-separated-returns t c = commas-some _ _ _ ((c .before .before .before .before .before .before .before .before .before .before .before .before .before .before .before .before .before .before .before .before .before .before .before .before .deeper) .ensures _) ((c .before .before .before .before .before .before .before .before .before .before .before .before .before .before .before .before .before .before .before .before .before .before .before .before .before .before .before .before .before .before .before .before .before .before .before .before .before .pre) .1 .rest) (sym ((c .before .before .before .before .before .before .before .before .before .before .before .before .before .before .before .before .before .before .before .before .before .before .before .before .before .before .is-next) .ensures) ∙ (c .before .before .before .before .before .before .before .before .before .before .before .before .before .before .before .before .before .before .before .before .before .before .before .before .before .if1) .taken) ((c .before .before .before .before .before .before .before .before .before .before .before .before .before .before .before .before .before .before .before .before .before .before .before .before .before .before .before .before .before .token) .ensures) ((c .before .before .before .before .before .before .before .before .before .before .before .before .before .before .before .before .before .before .before .before .before .before .new-line) .ensures) ((c .before .before .before .before .before .before .before .before .before .before .before .before .before .before .before .before .before .before .one) .ensures) ((c .before .before .before .before .before .before .before .before .before .before .before .before .before .before .each) .ensures) ((c .before .before .before .before .before .before .before .before .before .before .trailing-comma) .ensures) ((c .before .before .before .before .before .before .new-line2) .ensures) ((c .before .before .token2) .ensures)
+commas-returns : (t : ℕ) → commas-lts.Need-returns (claims-commas t) (commas-at t) commas.Post
+commas-returns t c = commas-some _ _ _ ((c .before .before .before .before .before .before .before .before .before .before .before .before .before .before .before .before .before .before .before .before .before .before .before .before .deeper) .ensures _) ((c .before .before .before .before .before .before .before .before .before .before .before .before .before .before .before .before .before .before .before .before .before .before .before .before .before .before .before .before .before .before .before .before .before .before .before .before .before .pre) .1 .rest) (sym ((c .before .before .before .before .before .before .before .before .before .before .before .before .before .before .before .before .before .before .before .before .before .before .before .before .before .before .is-next) .ensures) ∙ (c .before .before .before .before .before .before .before .before .before .before .before .before .before .before .before .before .before .before .before .before .before .before .before .before .before .if1) .taken) ((c .before .before .before .before .before .before .before .before .before .before .before .before .before .before .before .before .before .before .before .before .before .before .before .before .before .before .before .before .before .token) .ensures) ((c .before .before .before .before .before .before .before .before .before .before .before .before .before .before .before .before .before .before .before .before .before .before .new-line) .ensures) ((c .before .before .before .before .before .before .before .before .before .before .before .before .before .before .before .before .before .before .one) .ensures) ((c .before .before .before .before .before .before .before .before .before .before .before .before .before .before .each) .ensures) ((c .before .before .before .before .before .before .before .before .before .before .trailing-comma) .ensures) ((c .before .before .before .before .before .before .new-line2) .ensures) ((c .before .before .token2) .ensures)
 
-comma-separated-same-length : (t : ℕ) → comma-separated-lts.Need-same-length (claims-comma-separated t) (comma-separated-at t) comma-separated.Post
-comma-separated-same-length t c = wrote-length (comma-separated-returns t c .wrote)
+commas-same-length : (t : ℕ) → commas-lts.Need-same-length (claims-commas t) (commas-at t) commas.Post
+commas-same-length t c = wrote-length (commas-returns t c .wrote)
 
-comma-separated-token-requires-3 : (t : ℕ) → comma-separated-lts.Need-token-requires-3 (claims-comma-separated t) (comma-separated-at t) comma-separated.Post
-comma-separated-token-requires-3 t c κs = tt
+commas-token-requires-3 : (t : ℕ) → commas-lts.Need-token-requires-3 (claims-commas t) (commas-at t) commas.Post
+commas-token-requires-3 t c κs = tt
 
-comma-separated-returns-2 : (t : ℕ) → comma-separated-lts.Need-returns-2 (claims-comma-separated t) (comma-separated-at t) comma-separated.Post
-comma-separated-returns-2 t c = commas-none _ _ ((c .before .before .before .before .before .before .before .before .before .before .before .before .before .before .before .before .pre) .1 .rest) (sym ((c .before .before .before .before .before .is-next) .ensures) ∙ (c .before .before .before .before .if1) .left) ((c .before .before .before .before .before .before .before .before .token) .ensures) ((c .before .before .token3) .ensures)
+commas-returns-2 : (t : ℕ) → commas-lts.Need-returns-2 (claims-commas t) (commas-at t) commas.Post
+commas-returns-2 t c = commas-none _ _ ((c .before .before .before .before .before .before .before .before .before .before .before .before .before .before .before .before .pre) .1 .rest) (sym ((c .before .before .before .before .before .is-next) .ensures) ∙ (c .before .before .before .before .if1) .left) ((c .before .before .before .before .before .before .before .before .token) .ensures) ((c .before .before .token3) .ensures)
 
-comma-separated-same-length-2 : (t : ℕ) → comma-separated-lts.Need-same-length-2 (claims-comma-separated t) (comma-separated-at t) comma-separated.Post
-comma-separated-same-length-2 t c = wrote-length (comma-separated-returns-2 t c .wrote)
+commas-same-length-2 : (t : ℕ) → commas-lts.Need-same-length-2 (claims-commas t) (commas-at t) commas.Post
+commas-same-length-2 t c = wrote-length (commas-returns-2 t c .wrote)
 
-curly-brackets-slice-aggregate-token : (t : ℕ) → curly-brackets-lts.Need-slice-aggregate-token (claims-curly-brackets t) (curly-brackets-at t) curly-brackets.Post
-curly-brackets-slice-aggregate-token t c = refl
+curly-slice-aggregate-token : (t : ℕ) → curly-lts.Need-slice-aggregate-token (claims-curly t) (curly-at t) curly.Post
+curly-slice-aggregate-token t c = refl
 
-curly-brackets-token-requires : (t : ℕ) → curly-brackets-lts.Need-token-requires (claims-curly-brackets t) (curly-brackets-at t) curly-brackets.Post
-curly-brackets-token-requires t c κs = tt
+curly-token-requires : (t : ℕ) → curly-lts.Need-token-requires (claims-curly t) (curly-at t) curly.Post
+curly-token-requires t c κs = tt
 
-curly-brackets-is-next-requires : (t : ℕ) → curly-brackets-lts.Need-is-next-requires (claims-curly-brackets t) (curly-brackets-at t) curly-brackets.Post
-curly-brackets-is-next-requires t c κs = rest-within ((c .before .before .before .before .before .before .before .before .before .pre) .1 .rest)
+curly-is-next-requires : (t : ℕ) → curly-lts.Need-is-next-requires (claims-curly t) (curly-at t) curly.Post
+curly-is-next-requires t c κs = rest-within ((c .before .before .before .before .before .before .before .before .before .pre) .1 .rest)
 
-curly-brackets-deeper-requires : (t : ℕ) → curly-brackets-lts.Need-deeper-requires (claims-curly-brackets t) (curly-brackets-at t) curly-brackets.Post
-curly-brackets-deeper-requires t c κs = omega (arith, (c .before .before .before .before .before .before .before .before .before .before .before .pre) .1 .level)
+curly-deeper-requires : (t : ℕ) → curly-lts.Need-deeper-requires (claims-curly t) (curly-at t) curly.Post
+curly-deeper-requires t c κs = omega (arith, (c .before .before .before .before .before .before .before .before .before .before .before .pre) .1 .level)
 
-curly-brackets-each-requires : (t : ℕ) → curly-brackets-lts.Need-each-requires (claims-curly-brackets t) (curly-brackets-at t) curly-brackets.Post
-curly-brackets-each-requires t c κs = (omega (arith, (c .before .before .before .before .before .before .before .before .before .before .before .before .before .pre) .0), jobs-deeper _ (jobs-kept ((c .before .before .before .before .before .before .before .before .before .before .before .before .before .pre) .1) ((c .before .before .before .before .before .before .token) .ensures)) ((c .before .deeper) .ensures))
+curly-each-requires : (t : ℕ) → curly-lts.Need-each-requires (claims-curly t) (curly-at t) curly.Post
+curly-each-requires t c κs = (omega (arith, (c .before .before .before .before .before .before .before .before .before .before .before .before .before .pre) .0), jobs-deeper _ (jobs-kept ((c .before .before .before .before .before .before .before .before .before .before .before .before .before .pre) .1) ((c .before .before .before .before .before .before .token) .ensures)) ((c .before .deeper) .ensures))
 
-curly-brackets-new-line-or-space-requires :
-    (t : ℕ) → curly-brackets-lts.Need-new-line-or-space-requires (
+curly-new-line-or-space-requires :
+    (t : ℕ) → curly-lts.Need-new-line-or-space-requires (
       token-reads.Asked,
       token-reads.Learnt,
       is-next-reads.Asked,
@@ -642,53 +642,53 @@ curly-brackets-new-line-or-space-requires :
       each.Post,
       new-line-or-space-reads.Asked,
       new-line-or-space-reads.Learnt,
-    ) (curly-brackets-at t) curly-brackets.Post
-curly-brackets-new-line-or-space-requires t c κs = tt
+    ) (curly-at t) curly.Post
+curly-new-line-or-space-requires t c κs = tt
 
-curly-brackets-slice-aggregate-token-2 : (t : ℕ) → curly-brackets-lts.Need-slice-aggregate-token-2 (claims-curly-brackets t) (curly-brackets-at t) curly-brackets.Post
-curly-brackets-slice-aggregate-token-2 t c = refl
+curly-slice-aggregate-token-2 : (t : ℕ) → curly-lts.Need-slice-aggregate-token-2 (claims-curly t) (curly-at t) curly.Post
+curly-slice-aggregate-token-2 t c = refl
 
-curly-brackets-token-requires-2 : (t : ℕ) → curly-brackets-lts.Need-token-requires-2 (claims-curly-brackets t) (curly-brackets-at t) curly-brackets.Post
-curly-brackets-token-requires-2 t c κs = tt
+curly-token-requires-2 : (t : ℕ) → curly-lts.Need-token-requires-2 (claims-curly t) (curly-at t) curly.Post
+curly-token-requires-2 t c κs = tt
 
-curly-brackets-returns : (t : ℕ) → curly-brackets-lts.Need-returns (claims-curly-brackets t) (curly-brackets-at t) curly-brackets.Post
-curly-brackets-returns t c = braces-some _ _ _ ((c .before .before .before .before .before .before .before .before .before .before .before .before .before .deeper) .ensures _) ((c .before .before .before .before .before .before .before .before .before .before .before .before .before .before .before .before .before .before .before .before .before .before .before .before .before .pre) .1 .rest) (sym ((c .before .before .before .before .before .before .before .before .before .before .before .before .before .before .before .is-next) .ensures) ∙ (c .before .before .before .before .before .before .before .before .before .before .before .before .before .before .if1) .taken) ((c .before .before .before .before .before .before .before .before .before .before .before .before .before .before .before .before .before .before .token) .ensures) ((c .before .before .before .before .before .before .before .before .before .before .before .each) .ensures) ((c .before .before .before .before .before .before .before .new-line-or-space) .ensures) ((c .before .before .token2) .ensures)
+curly-returns : (t : ℕ) → curly-lts.Need-returns (claims-curly t) (curly-at t) curly.Post
+curly-returns t c = braces-some _ _ _ ((c .before .before .before .before .before .before .before .before .before .before .before .before .before .deeper) .ensures _) ((c .before .before .before .before .before .before .before .before .before .before .before .before .before .before .before .before .before .before .before .before .before .before .before .before .before .pre) .1 .rest) (sym ((c .before .before .before .before .before .before .before .before .before .before .before .before .before .before .before .is-next) .ensures) ∙ (c .before .before .before .before .before .before .before .before .before .before .before .before .before .before .if1) .taken) ((c .before .before .before .before .before .before .before .before .before .before .before .before .before .before .before .before .before .before .token) .ensures) ((c .before .before .before .before .before .before .before .before .before .before .before .each) .ensures) ((c .before .before .before .before .before .before .before .new-line-or-space) .ensures) ((c .before .before .token2) .ensures)
 
-curly-brackets-same-length : (t : ℕ) → curly-brackets-lts.Need-same-length (claims-curly-brackets t) (curly-brackets-at t) curly-brackets.Post
-curly-brackets-same-length t c = wrote-length (curly-brackets-returns t c .wrote)
+curly-same-length : (t : ℕ) → curly-lts.Need-same-length (claims-curly t) (curly-at t) curly.Post
+curly-same-length t c = wrote-length (curly-returns t c .wrote)
 
-curly-brackets-slice-aggregate-token-3 : (t : ℕ) → curly-brackets-lts.Need-slice-aggregate-token-3 (claims-curly-brackets t) (curly-brackets-at t) curly-brackets.Post
-curly-brackets-slice-aggregate-token-3 t c = refl
+curly-slice-aggregate-token-3 : (t : ℕ) → curly-lts.Need-slice-aggregate-token-3 (claims-curly t) (curly-at t) curly.Post
+curly-slice-aggregate-token-3 t c = refl
 
-curly-brackets-token-requires-3 : (t : ℕ) → curly-brackets-lts.Need-token-requires-3 (claims-curly-brackets t) (curly-brackets-at t) curly-brackets.Post
-curly-brackets-token-requires-3 t c κs = tt
+curly-token-requires-3 : (t : ℕ) → curly-lts.Need-token-requires-3 (claims-curly t) (curly-at t) curly.Post
+curly-token-requires-3 t c κs = tt
 
-curly-brackets-returns-2 : (t : ℕ) → curly-brackets-lts.Need-returns-2 (claims-curly-brackets t) (curly-brackets-at t) curly-brackets.Post
-curly-brackets-returns-2 t c = braces-none _ _ ((c .before .before .before .before .before .before .before .before .before .before .before .before .before .before .before .before .pre) .1 .rest) (sym ((c .before .before .before .before .before .before .is-next) .ensures) ∙ (c .before .before .before .before .before .if1) .left) ((c .before .before .before .before .before .before .before .before .before .token) .ensures) ((c .before .before .token3) .ensures)
+curly-returns-2 : (t : ℕ) → curly-lts.Need-returns-2 (claims-curly t) (curly-at t) curly.Post
+curly-returns-2 t c = braces-none _ _ ((c .before .before .before .before .before .before .before .before .before .before .before .before .before .before .before .before .pre) .1 .rest) (sym ((c .before .before .before .before .before .before .is-next) .ensures) ∙ (c .before .before .before .before .before .if1) .left) ((c .before .before .before .before .before .before .before .before .before .token) .ensures) ((c .before .before .token3) .ensures)
 
-curly-brackets-same-length-2 : (t : ℕ) → curly-brackets-lts.Need-same-length-2 (claims-curly-brackets t) (curly-brackets-at t) curly-brackets.Post
-curly-brackets-same-length-2 t c = wrote-length (curly-brackets-returns-2 t c .wrote)
+curly-same-length-2 : (t : ℕ) → curly-lts.Need-same-length-2 (claims-curly t) (curly-at t) curly.Post
+curly-same-length-2 t c = wrote-length (curly-returns-2 t c .wrote)
 
-default-value-is-next-requires : (t : ℕ) → default-value-lts.Need-is-next-requires (claims-default-value t) (default-value-at t) default-value.Post
-default-value-is-next-requires t c κs = rest-within ((c .before .before .before .before .pre) .1 .rest)
+default-is-next-requires : (t : ℕ) → default-lts.Need-is-next-requires (claims-default t) (default-at t) default.Post
+default-is-next-requires t c κs = rest-within ((c .before .before .before .before .pre) .1 .rest)
 
-default-value-slice-aggregate-token : (t : ℕ) → default-value-lts.Need-slice-aggregate-token (claims-default-value t) (default-value-at t) default-value.Post
-default-value-slice-aggregate-token t c = refl
+default-slice-aggregate-token : (t : ℕ) → default-lts.Need-slice-aggregate-token (claims-default t) (default-at t) default.Post
+default-slice-aggregate-token t c = refl
 
-default-value-token-requires : (t : ℕ) → default-value-lts.Need-token-requires (claims-default-value t) (default-value-at t) default-value.Post
-default-value-token-requires t c κs = tt
+default-token-requires : (t : ℕ) → default-lts.Need-token-requires (claims-default t) (default-at t) default.Post
+default-token-requires t c κs = tt
 
-default-value-one-requires : (t : ℕ) → default-value-lts.Need-one-requires (claims-default-value t) (default-value-at t) default-value.Post
-default-value-one-requires t c κs = (omega (arith, (c .before .before .before .before .before .before .before .before .before .before .before .before .pre) .0), jobs-kept ((c .before .before .before .before .before .before .before .before .before .before .before .before .pre) .1) ((c .before .before .before .token) .ensures))
+default-one-requires : (t : ℕ) → default-lts.Need-one-requires (claims-default t) (default-at t) default.Post
+default-one-requires t c κs = (omega (arith, (c .before .before .before .before .before .before .before .before .before .before .before .before .pre) .0), jobs-kept ((c .before .before .before .before .before .before .before .before .before .before .before .before .pre) .1) ((c .before .before .before .token) .ensures))
 
-default-value-returns : (t : ℕ) → default-value-lts.Need-returns (claims-default-value t) (default-value-at t) default-value.Post
-default-value-returns t c = λ n. a-child _ (rest-ranged ((c .before .before .before .before .before .before .before .before .before .before .before .before .before .before .before .pre) .1 .rest)) value (sym ((c .before .before .before .before .before .before .before .before .before .before .is-next) .ensures) ∙ (c .before .before .before .before .before .before .before .before .before .if1) .taken) (did-tokens (sp ++ token "=" ++ sp) refl ((c .before .before .before .before .before .before .token) .ensures) ⨾ did-one value ((c .before .before .one) .ensures))
+default-returns : (t : ℕ) → default-lts.Need-returns (claims-default t) (default-at t) default.Post
+default-returns t c = λ n. a-child _ (rest-ranged ((c .before .before .before .before .before .before .before .before .before .before .before .before .before .before .before .pre) .1 .rest)) value (sym ((c .before .before .before .before .before .before .before .before .before .before .is-next) .ensures) ∙ (c .before .before .before .before .before .before .before .before .before .if1) .taken) (did-tokens (sp ++ token "=" ++ sp) refl ((c .before .before .before .before .before .before .token) .ensures) ⨾ did-one value ((c .before .before .one) .ensures))
 
-default-value-same-length : (t : ℕ) → default-value-lts.Need-same-length (claims-default-value t) (default-value-at t) default-value.Post
-default-value-same-length t c = wrote-length (default-value-returns t c 0 .walked .wrote)
+default-same-length : (t : ℕ) → default-lts.Need-same-length (claims-default t) (default-at t) default.Post
+default-same-length t c = wrote-length (default-returns t c 0 .walked .wrote)
 
-default-value-returns-2 : (t : ℕ) → default-value-lts.Need-returns-2 (claims-default-value t) (default-value-at t) default-value.Post
-default-value-returns-2 t c = λ n. no-child (sp ++ token "=" ++ sp ++ child value) (rest-ranged ((c .before .before .before .before .before .before .pre) .1 .rest)) value refl (sym ((c .before .is-next) .ensures) ∙ (c .if1) .left) (kept-none (record { place = omega arith; size = omega arith }))
+default-returns-2 : (t : ℕ) → default-lts.Need-returns-2 (claims-default t) (default-at t) default.Post
+default-returns-2 t c = λ n. no-child (sp ++ token "=" ++ sp ++ child value) (rest-ranged ((c .before .before .before .before .before .before .pre) .1 .rest)) value refl (sym ((c .before .is-next) .ensures) ∙ (c .if1) .left) (kept-none (record { place = omega arith; size = omega arith }))
 
 directive-slice-aggregate-token : (t : ℕ) → directive-lts.Need-slice-aggregate-token (claims-directive t) (directive-at t) directive.Post
 directive-slice-aggregate-token t c = refl
@@ -790,71 +790,71 @@ field-arguments-requires t c κs = (omega (arith, (c .before .before .before .be
 field-directives-requires : (t : ℕ) → field-lts.Need-directives-requires (claims-field t) (field-at t) field.Post
 field-directives-requires t c κs = (omega (arith, (c .before .before .before .before .before .before .before .before .before .before .before .before .before .before .before .before .before .pre) .0), here (jobs-walked (jobs-kept (jobs-walked ((c .before .before .before .before .before .before .before .before .before .before .before .before .before .before .before .before .before .pre) .1 .jobs) ((c .before .before .before .before .before .before .before .before .before .before .before .alias) .ensures defaultSettings 0 .walked)) ((c .before .before .before .before .before .before .before .name) .ensures)) ((c .before .before .before .arguments) .ensures 0 .walked)))
 
-field-optional-braces-requires : (t : ℕ) → field-lts.Need-optional-braces-requires (claims-field t) (field-at t) field.Post
-field-optional-braces-requires t c κs = (omega (arith, (c .before .before .before .before .before .before .before .before .before .before .before .before .before .before .before .before .before .before .before .before .before .pre) .0), jobs-walked (jobs-walked (jobs-kept (jobs-walked ((c .before .before .before .before .before .before .before .before .before .before .before .before .before .before .before .before .before .before .before .before .before .pre) .1 .jobs) ((c .before .before .before .before .before .before .before .before .before .before .before .before .before .before .before .alias) .ensures defaultSettings 0 .walked)) ((c .before .before .before .before .before .before .before .before .before .before .before .name) .ensures)) ((c .before .before .before .before .before .before .before .arguments) .ensures 0 .walked)) ((c .before .before .before .directives) .ensures))
+field-opt-braces-requires : (t : ℕ) → field-lts.Need-opt-braces-requires (claims-field t) (field-at t) field.Post
+field-opt-braces-requires t c κs = (omega (arith, (c .before .before .before .before .before .before .before .before .before .before .before .before .before .before .before .before .before .before .before .before .before .pre) .0), jobs-walked (jobs-walked (jobs-kept (jobs-walked ((c .before .before .before .before .before .before .before .before .before .before .before .before .before .before .before .before .before .before .before .before .before .pre) .1 .jobs) ((c .before .before .before .before .before .before .before .before .before .before .before .before .before .before .before .alias) .ensures defaultSettings 0 .walked)) ((c .before .before .before .before .before .before .before .before .before .before .before .name) .ensures)) ((c .before .before .before .before .before .before .before .arguments) .ensures 0 .walked)) ((c .before .before .before .directives) .ensures))
 
 field-returns : (t : ℕ) → field-lts.Need-returns (claims-field t) (field-at t) field.Post
 unfolding ruleOf
-field-returns t c = (c .before .before .before .before .before .before .before .before .before .before .before .before .before .before .before .before .before .before .alias) .ensures _ _ ⨾ did-name ((c .before .before .before .before .before .before .before .before .before .before .before .before .before .before .name) .ensures) ⨾ (c .before .before .before .before .before .before .before .before .before .before .arguments) .ensures _ ⨾ did-spaced _ ((c .before .before .before .before .before .before .directives) .ensures) ⨾ (c .before .before .optional-braces) .ensures _
+field-returns t c = (c .before .before .before .before .before .before .before .before .before .before .before .before .before .before .before .before .before .before .alias) .ensures _ _ ⨾ did-name ((c .before .before .before .before .before .before .before .before .before .before .before .before .before .before .name) .ensures) ⨾ (c .before .before .before .before .before .before .before .before .before .before .arguments) .ensures _ ⨾ did-spaced _ ((c .before .before .before .before .before .before .directives) .ensures) ⨾ (c .before .before .opt-braces) .ensures _
 
 field-same-length : (t : ℕ) → field-lts.Need-same-length (claims-field t) (field-at t) field.Post
 field-same-length t c = wrote-length (field-returns t c .walked .wrote)
 
-field-definition-serialize-description-requires :
-    (t : ℕ) → field-definition-lts.Need-serialize-description-requires (
+field-def-serialize-description-requires :
+    (t : ℕ) → field-def-lts.Need-serialize-description-requires (
       serialize-description-reads.Asked,
       serialize-description-reads.Learnt,
       name-reads.Asked,
       name-reads.Learnt,
-      arguments-definition-below t,
-      arguments-definition.Post,
+      arguments-def-below t,
+      arguments-def.Post,
       token-reads.Asked,
       token-reads.Learnt,
       one-below t,
       one.Post,
       directives-below t,
       directives.Post,
-    ) (field-definition-at t) field-definition.Post
-field-definition-serialize-description-requires t c κs = (rest-ranged ((c .before .before .before .before .before .pre) .1 .jobs .rest), (c .before .before .before .before .before .pre) .1 .jobs .table)
+    ) (field-def-at t) field-def.Post
+field-def-serialize-description-requires t c κs = (rest-ranged ((c .before .before .before .before .before .pre) .1 .jobs .rest), (c .before .before .before .before .before .pre) .1 .jobs .table)
 
-field-definition-name-requires : (t : ℕ) → field-definition-lts.Need-name-requires (claims-field-definition t) (field-definition-at t) field-definition.Post
-field-definition-name-requires t c κs = (c .before .before .before .before .before .before .before .before .before .pre) .1 .text
+field-def-name-requires : (t : ℕ) → field-def-lts.Need-name-requires (claims-field-def t) (field-def-at t) field-def.Post
+field-def-name-requires t c κs = (c .before .before .before .before .before .before .before .before .before .pre) .1 .text
 
-field-definition-arguments-definition-requires :
-    (t : ℕ) → field-definition-lts.Need-arguments-definition-requires (
+field-def-arguments-def-requires :
+    (t : ℕ) → field-def-lts.Need-arguments-def-requires (
       serialize-description-reads.Asked,
       serialize-description-reads.Learnt,
       name-reads.Asked,
       name-reads.Learnt,
-      arguments-definition-below t,
-      arguments-definition.Post,
+      arguments-def-below t,
+      arguments-def.Post,
       token-reads.Asked,
       token-reads.Learnt,
       one-below t,
       one.Post,
       directives-below t,
       directives.Post,
-    ) (field-definition-at t) field-definition.Post
-field-definition-arguments-definition-requires t c κs = (omega (arith, (c .before .before .before .before .before .before .before .before .before .before .before .before .before .pre) .0), jobs-kept (jobs-walked ((c .before .before .before .before .before .before .before .before .before .before .before .before .before .pre) .1 .jobs) ((c .before .before .before .before .before .before .before .serialize-description) .ensures 0 .walked)) ((c .before .before .before .name) .ensures))
+    ) (field-def-at t) field-def.Post
+field-def-arguments-def-requires t c κs = (omega (arith, (c .before .before .before .before .before .before .before .before .before .before .before .before .before .pre) .0), jobs-kept (jobs-walked ((c .before .before .before .before .before .before .before .before .before .before .before .before .before .pre) .1 .jobs) ((c .before .before .before .before .before .before .before .serialize-description) .ensures 0 .walked)) ((c .before .before .before .name) .ensures))
 
-field-definition-slice-aggregate-token : (t : ℕ) → field-definition-lts.Need-slice-aggregate-token (claims-field-definition t) (field-definition-at t) field-definition.Post
-field-definition-slice-aggregate-token t c = refl
+field-def-slice-aggregate-token : (t : ℕ) → field-def-lts.Need-slice-aggregate-token (claims-field-def t) (field-def-at t) field-def.Post
+field-def-slice-aggregate-token t c = refl
 
-field-definition-token-requires : (t : ℕ) → field-definition-lts.Need-token-requires (claims-field-definition t) (field-definition-at t) field-definition.Post
-field-definition-token-requires t c κs = tt
+field-def-token-requires : (t : ℕ) → field-def-lts.Need-token-requires (claims-field-def t) (field-def-at t) field-def.Post
+field-def-token-requires t c κs = tt
 
-field-definition-one-requires : (t : ℕ) → field-definition-lts.Need-one-requires (claims-field-definition t) (field-definition-at t) field-definition.Post
-field-definition-one-requires t c κs = (omega (arith, (c .before .before .before .before .before .before .before .before .before .before .before .before .before .before .before .before .before .before .before .before .before .before .pre) .0), here (jobs-kept (jobs-walked (jobs-kept (jobs-walked ((c .before .before .before .before .before .before .before .before .before .before .before .before .before .before .before .before .before .before .before .before .before .before .pre) .1 .jobs) ((c .before .before .before .before .before .before .before .before .before .before .before .before .before .before .before .before .serialize-description) .ensures 0 .walked)) ((c .before .before .before .before .before .before .before .before .before .before .before .before .name) .ensures)) ((c .before .before .before .before .before .before .before .before .arguments-definition) .ensures 0 .walked)) ((c .before .before .before .token) .ensures)))
+field-def-one-requires : (t : ℕ) → field-def-lts.Need-one-requires (claims-field-def t) (field-def-at t) field-def.Post
+field-def-one-requires t c κs = (omega (arith, (c .before .before .before .before .before .before .before .before .before .before .before .before .before .before .before .before .before .before .before .before .before .before .pre) .0), here (jobs-kept (jobs-walked (jobs-kept (jobs-walked ((c .before .before .before .before .before .before .before .before .before .before .before .before .before .before .before .before .before .before .before .before .before .before .pre) .1 .jobs) ((c .before .before .before .before .before .before .before .before .before .before .before .before .before .before .before .before .serialize-description) .ensures 0 .walked)) ((c .before .before .before .before .before .before .before .before .before .before .before .before .name) .ensures)) ((c .before .before .before .before .before .before .before .before .arguments-def) .ensures 0 .walked)) ((c .before .before .before .token) .ensures)))
 
-field-definition-directives-requires : (t : ℕ) → field-definition-lts.Need-directives-requires (claims-field-definition t) (field-definition-at t) field-definition.Post
-field-definition-directives-requires t c κs = (omega (arith, (c .before .before .before .before .before .before .before .before .before .before .before .before .before .before .before .before .before .before .before .before .before .before .before .before .before .before .pre) .0), here (jobs-walked (jobs-kept (jobs-walked (jobs-kept (jobs-walked ((c .before .before .before .before .before .before .before .before .before .before .before .before .before .before .before .before .before .before .before .before .before .before .before .before .before .before .pre) .1 .jobs) ((c .before .before .before .before .before .before .before .before .before .before .before .before .before .before .before .before .before .before .before .before .serialize-description) .ensures 0 .walked)) ((c .before .before .before .before .before .before .before .before .before .before .before .before .before .before .before .before .name) .ensures)) ((c .before .before .before .before .before .before .before .before .before .before .before .before .arguments-definition) .ensures 0 .walked)) ((c .before .before .before .before .before .before .before .token) .ensures)) ((c .before .before .before .one) .ensures)))
+field-def-directives-requires : (t : ℕ) → field-def-lts.Need-directives-requires (claims-field-def t) (field-def-at t) field-def.Post
+field-def-directives-requires t c κs = (omega (arith, (c .before .before .before .before .before .before .before .before .before .before .before .before .before .before .before .before .before .before .before .before .before .before .before .before .before .before .pre) .0), here (jobs-walked (jobs-kept (jobs-walked (jobs-kept (jobs-walked ((c .before .before .before .before .before .before .before .before .before .before .before .before .before .before .before .before .before .before .before .before .before .before .before .before .before .before .pre) .1 .jobs) ((c .before .before .before .before .before .before .before .before .before .before .before .before .before .before .before .before .before .before .before .before .serialize-description) .ensures 0 .walked)) ((c .before .before .before .before .before .before .before .before .before .before .before .before .before .before .before .before .name) .ensures)) ((c .before .before .before .before .before .before .before .before .before .before .before .before .arguments-def) .ensures 0 .walked)) ((c .before .before .before .before .before .before .before .token) .ensures)) ((c .before .before .before .one) .ensures)))
 
-field-definition-returns : (t : ℕ) → field-definition-lts.Need-returns (claims-field-definition t) (field-definition-at t) field-definition.Post
+field-def-returns : (t : ℕ) → field-def-lts.Need-returns (claims-field-def t) (field-def-at t) field-def.Post
 unfolding ruleOf
-field-definition-returns t c = (c .before .before .before .before .before .before .before .before .before .before .before .before .before .before .before .before .before .before .before .before .before .before .before .serialize-description) .ensures _ ⨾ did-name ((c .before .before .before .before .before .before .before .before .before .before .before .before .before .before .before .before .before .before .before .name) .ensures) ⨾ (c .before .before .before .before .before .before .before .before .before .before .before .before .before .before .before .arguments-definition) .ensures _ ⨾ did-tokens (token ":" ++ sp) refl ((c .before .before .before .before .before .before .before .before .before .before .token) .ensures) ⨾ did-one type ((c .before .before .before .before .before .before .one) .ensures) ⨾ did-spaced _ ((c .before .before .directives) .ensures)
+field-def-returns t c = (c .before .before .before .before .before .before .before .before .before .before .before .before .before .before .before .before .before .before .before .before .before .before .before .serialize-description) .ensures _ ⨾ did-name ((c .before .before .before .before .before .before .before .before .before .before .before .before .before .before .before .before .before .before .before .name) .ensures) ⨾ (c .before .before .before .before .before .before .before .before .before .before .before .before .before .before .before .arguments-def) .ensures _ ⨾ did-tokens (token ":" ++ sp) refl ((c .before .before .before .before .before .before .before .before .before .before .token) .ensures) ⨾ did-one type ((c .before .before .before .before .before .before .one) .ensures) ⨾ did-spaced _ ((c .before .before .directives) .ensures)
 
-field-definition-same-length : (t : ℕ) → field-definition-lts.Need-same-length (claims-field-definition t) (field-definition-at t) field-definition.Post
-field-definition-same-length t c = wrote-length (field-definition-returns t c .walked .wrote)
+field-def-same-length : (t : ℕ) → field-def-lts.Need-same-length (claims-field-def t) (field-def-at t) field-def.Post
+field-def-same-length t c = wrote-length (field-def-returns t c .walked .wrote)
 
 inline-slice-aggregate-token : (t : ℕ) → inline-lts.Need-slice-aggregate-token (claims-inline t) (inline-at t) inline.Post
 inline-slice-aggregate-token t c = refl
@@ -877,18 +877,18 @@ inline-slice-aggregate-token-2 t c = refl
 inline-token-requires-2 : (t : ℕ) → inline-lts.Need-token-requires-2 (claims-inline t) (inline-at t) inline.Post
 inline-token-requires-2 t c κs = tt
 
-inline-curly-brackets-requires : (t : ℕ) → inline-lts.Need-curly-brackets-requires (claims-inline t) (inline-at t) inline.Post
-inline-curly-brackets-requires t c κs = (omega (arith, (c .before .before .before .before .before .before .before .before .before .before .before .before .before .before .before .before .before .before .before .before .before .before .before .before .pre) .0), jobs-kept (jobs-walked (jobs-walked (jobs-kept ((c .before .before .before .before .before .before .before .before .before .before .before .before .before .before .before .before .before .before .before .before .before .before .before .before .pre) .1 .jobs) ((c .before .before .before .before .before .before .before .before .before .before .before .before .before .before .before .before .before .token) .ensures)) ((c .before .before .before .before .before .before .before .before .before .before .before .before .if-named) .ensures defaultSettings _ (sp ++ token "on" ++ sp) refl refl .walked)) ((c .before .before .before .before .before .before .before .before .directives) .ensures)) ((c .before .before .before .token2) .ensures))
+inline-curly-requires : (t : ℕ) → inline-lts.Need-curly-requires (claims-inline t) (inline-at t) inline.Post
+inline-curly-requires t c κs = (omega (arith, (c .before .before .before .before .before .before .before .before .before .before .before .before .before .before .before .before .before .before .before .before .before .before .before .before .pre) .0), jobs-kept (jobs-walked (jobs-walked (jobs-kept ((c .before .before .before .before .before .before .before .before .before .before .before .before .before .before .before .before .before .before .before .before .before .before .before .before .pre) .1 .jobs) ((c .before .before .before .before .before .before .before .before .before .before .before .before .before .before .before .before .before .token) .ensures)) ((c .before .before .before .before .before .before .before .before .before .before .before .before .if-named) .ensures defaultSettings _ (sp ++ token "on" ++ sp) refl refl .walked)) ((c .before .before .before .before .before .before .before .before .directives) .ensures)) ((c .before .before .before .token2) .ensures))
 
 inline-returns : (t : ℕ) → inline-lts.Need-returns (claims-inline t) (inline-at t) inline.Post
 unfolding ruleOf
-inline-returns t c = did-tokens (token "...") refl ((c .before .before .before .before .before .before .before .before .before .before .before .before .before .before .before .before .before .before .before .before .token) .ensures) ⨾ (c .before .before .before .before .before .before .before .before .before .before .before .before .before .before .before .if-named) .ensures _ _ (sp ++ token "on" ++ sp) refl refl ⨾ did-spaced _ ((c .before .before .before .before .before .before .before .before .before .before .before .directives) .ensures) ⨾ did-tokens (sp) refl ((c .before .before .before .before .before .before .token2) .ensures) ⨾ did-braces _ ((c .before .before .curly-brackets) .ensures)
+inline-returns t c = did-tokens (token "...") refl ((c .before .before .before .before .before .before .before .before .before .before .before .before .before .before .before .before .before .before .before .before .token) .ensures) ⨾ (c .before .before .before .before .before .before .before .before .before .before .before .before .before .before .before .if-named) .ensures _ _ (sp ++ token "on" ++ sp) refl refl ⨾ did-spaced _ ((c .before .before .before .before .before .before .before .before .before .before .before .directives) .ensures) ⨾ did-tokens (sp) refl ((c .before .before .before .before .before .before .token2) .ensures) ⨾ did-braces _ ((c .before .before .curly) .ensures)
 
 inline-same-length : (t : ℕ) → inline-lts.Need-same-length (claims-inline t) (inline-at t) inline.Post
 inline-same-length t c = wrote-length (inline-returns t c .walked .wrote)
 
-input-value-serialize-description-requires :
-    (t : ℕ) → input-value-lts.Need-serialize-description-requires (
+input-serialize-description-requires :
+    (t : ℕ) → input-lts.Need-serialize-description-requires (
       serialize-description-reads.Asked,
       serialize-description-reads.Learnt,
       name-reads.Asked,
@@ -897,77 +897,77 @@ input-value-serialize-description-requires :
       token-reads.Learnt,
       one-below t,
       one.Post,
-      default-value-below t,
-      default-value.Post,
+      default-below t,
+      default.Post,
       directives-below t,
       directives.Post,
-    ) (input-value-at t) input-value.Post
-input-value-serialize-description-requires t c κs = (rest-ranged ((c .before .before .before .before .before .pre) .1 .jobs .rest), (c .before .before .before .before .before .pre) .1 .jobs .table)
+    ) (input-at t) input.Post
+input-serialize-description-requires t c κs = (rest-ranged ((c .before .before .before .before .before .pre) .1 .jobs .rest), (c .before .before .before .before .before .pre) .1 .jobs .table)
 
-input-value-name-requires : (t : ℕ) → input-value-lts.Need-name-requires (claims-input-value t) (input-value-at t) input-value.Post
-input-value-name-requires t c κs = (c .before .before .before .before .before .before .before .before .before .pre) .1 .text
+input-name-requires : (t : ℕ) → input-lts.Need-name-requires (claims-input t) (input-at t) input.Post
+input-name-requires t c κs = (c .before .before .before .before .before .before .before .before .before .pre) .1 .text
 
-input-value-slice-aggregate-token : (t : ℕ) → input-value-lts.Need-slice-aggregate-token (claims-input-value t) (input-value-at t) input-value.Post
-input-value-slice-aggregate-token t c = refl
+input-slice-aggregate-token : (t : ℕ) → input-lts.Need-slice-aggregate-token (claims-input t) (input-at t) input.Post
+input-slice-aggregate-token t c = refl
 
-input-value-token-requires : (t : ℕ) → input-value-lts.Need-token-requires (claims-input-value t) (input-value-at t) input-value.Post
-input-value-token-requires t c κs = tt
+input-token-requires : (t : ℕ) → input-lts.Need-token-requires (claims-input t) (input-at t) input.Post
+input-token-requires t c κs = tt
 
-input-value-one-requires : (t : ℕ) → input-value-lts.Need-one-requires (claims-input-value t) (input-value-at t) input-value.Post
-input-value-one-requires t c κs = (omega (arith, (c .before .before .before .before .before .before .before .before .before .before .before .before .before .before .before .before .before .before .pre) .0), here (jobs-kept (jobs-kept (jobs-walked ((c .before .before .before .before .before .before .before .before .before .before .before .before .before .before .before .before .before .before .pre) .1 .jobs) ((c .before .before .before .before .before .before .before .before .before .before .before .before .serialize-description) .ensures 0 .walked)) ((c .before .before .before .before .before .before .before .before .name) .ensures)) ((c .before .before .before .token) .ensures)))
+input-one-requires : (t : ℕ) → input-lts.Need-one-requires (claims-input t) (input-at t) input.Post
+input-one-requires t c κs = (omega (arith, (c .before .before .before .before .before .before .before .before .before .before .before .before .before .before .before .before .before .before .pre) .0), here (jobs-kept (jobs-kept (jobs-walked ((c .before .before .before .before .before .before .before .before .before .before .before .before .before .before .before .before .before .before .pre) .1 .jobs) ((c .before .before .before .before .before .before .before .before .before .before .before .before .serialize-description) .ensures 0 .walked)) ((c .before .before .before .before .before .before .before .before .name) .ensures)) ((c .before .before .before .token) .ensures)))
 
-input-value-default-value-requires : (t : ℕ) → input-value-lts.Need-default-value-requires (claims-input-value t) (input-value-at t) input-value.Post
-input-value-default-value-requires t c κs = (omega (arith, (c .before .before .before .before .before .before .before .before .before .before .before .before .before .before .before .before .before .before .before .before .before .before .pre) .0), here (jobs-walked (jobs-kept (jobs-kept (jobs-walked ((c .before .before .before .before .before .before .before .before .before .before .before .before .before .before .before .before .before .before .before .before .before .before .pre) .1 .jobs) ((c .before .before .before .before .before .before .before .before .before .before .before .before .before .before .before .before .serialize-description) .ensures 0 .walked)) ((c .before .before .before .before .before .before .before .before .before .before .before .before .name) .ensures)) ((c .before .before .before .before .before .before .before .token) .ensures)) ((c .before .before .before .one) .ensures)))
+input-default-requires : (t : ℕ) → input-lts.Need-default-requires (claims-input t) (input-at t) input.Post
+input-default-requires t c κs = (omega (arith, (c .before .before .before .before .before .before .before .before .before .before .before .before .before .before .before .before .before .before .before .before .before .before .pre) .0), here (jobs-walked (jobs-kept (jobs-kept (jobs-walked ((c .before .before .before .before .before .before .before .before .before .before .before .before .before .before .before .before .before .before .before .before .before .before .pre) .1 .jobs) ((c .before .before .before .before .before .before .before .before .before .before .before .before .before .before .before .before .serialize-description) .ensures 0 .walked)) ((c .before .before .before .before .before .before .before .before .before .before .before .before .name) .ensures)) ((c .before .before .before .before .before .before .before .token) .ensures)) ((c .before .before .before .one) .ensures)))
 
-input-value-directives-requires : (t : ℕ) → input-value-lts.Need-directives-requires (claims-input-value t) (input-value-at t) input-value.Post
-input-value-directives-requires t c κs = (omega (arith, (c .before .before .before .before .before .before .before .before .before .before .before .before .before .before .before .before .before .before .before .before .before .before .before .before .before .before .pre) .0), here (jobs-walked (jobs-walked (jobs-kept (jobs-kept (jobs-walked ((c .before .before .before .before .before .before .before .before .before .before .before .before .before .before .before .before .before .before .before .before .before .before .before .before .before .before .pre) .1 .jobs) ((c .before .before .before .before .before .before .before .before .before .before .before .before .before .before .before .before .before .before .before .before .serialize-description) .ensures 0 .walked)) ((c .before .before .before .before .before .before .before .before .before .before .before .before .before .before .before .before .name) .ensures)) ((c .before .before .before .before .before .before .before .before .before .before .before .token) .ensures)) ((c .before .before .before .before .before .before .before .one) .ensures)) ((c .before .before .before .default-value) .ensures 0 .walked)))
+input-directives-requires : (t : ℕ) → input-lts.Need-directives-requires (claims-input t) (input-at t) input.Post
+input-directives-requires t c κs = (omega (arith, (c .before .before .before .before .before .before .before .before .before .before .before .before .before .before .before .before .before .before .before .before .before .before .before .before .before .before .pre) .0), here (jobs-walked (jobs-walked (jobs-kept (jobs-kept (jobs-walked ((c .before .before .before .before .before .before .before .before .before .before .before .before .before .before .before .before .before .before .before .before .before .before .before .before .before .before .pre) .1 .jobs) ((c .before .before .before .before .before .before .before .before .before .before .before .before .before .before .before .before .before .before .before .before .serialize-description) .ensures 0 .walked)) ((c .before .before .before .before .before .before .before .before .before .before .before .before .before .before .before .before .name) .ensures)) ((c .before .before .before .before .before .before .before .before .before .before .before .token) .ensures)) ((c .before .before .before .before .before .before .before .one) .ensures)) ((c .before .before .before .default) .ensures 0 .walked)))
 
-input-value-returns : (t : ℕ) → input-value-lts.Need-returns (claims-input-value t) (input-value-at t) input-value.Post
+input-returns : (t : ℕ) → input-lts.Need-returns (claims-input t) (input-at t) input.Post
 unfolding ruleOf
-input-value-returns t c = (c .before .before .before .before .before .before .before .before .before .before .before .before .before .before .before .before .before .before .before .before .before .before .before .serialize-description) .ensures _ ⨾ did-name ((c .before .before .before .before .before .before .before .before .before .before .before .before .before .before .before .before .before .before .before .name) .ensures) ⨾ did-tokens (token ":" ++ sp) refl ((c .before .before .before .before .before .before .before .before .before .before .before .before .before .before .token) .ensures) ⨾ did-one type ((c .before .before .before .before .before .before .before .before .before .before .one) .ensures) ⨾ (c .before .before .before .before .before .before .default-value) .ensures _ ⨾ did-spaced _ ((c .before .before .directives) .ensures)
+input-returns t c = (c .before .before .before .before .before .before .before .before .before .before .before .before .before .before .before .before .before .before .before .before .before .before .before .serialize-description) .ensures _ ⨾ did-name ((c .before .before .before .before .before .before .before .before .before .before .before .before .before .before .before .before .before .before .before .name) .ensures) ⨾ did-tokens (token ":" ++ sp) refl ((c .before .before .before .before .before .before .before .before .before .before .before .before .before .before .token) .ensures) ⨾ did-one type ((c .before .before .before .before .before .before .before .before .before .before .one) .ensures) ⨾ (c .before .before .before .before .before .before .default) .ensures _ ⨾ did-spaced _ ((c .before .before .directives) .ensures)
 
-input-value-same-length : (t : ℕ) → input-value-lts.Need-same-length (claims-input-value t) (input-value-at t) input-value.Post
-input-value-same-length t c = wrote-length (input-value-returns t c .walked .wrote)
+input-same-length : (t : ℕ) → input-lts.Need-same-length (claims-input t) (input-at t) input.Post
+input-same-length t c = wrote-length (input-returns t c .walked .wrote)
 
-list-slice-aggregate-comma-separated : (t : ℕ) → list-lts.Need-slice-aggregate-comma-separated (claims-list t) (list-at t) list.Post
-list-slice-aggregate-comma-separated t c = refl
+list-slice-aggregate-commas : (t : ℕ) → list-lts.Need-slice-aggregate-commas (claims-list t) (list-at t) list.Post
+list-slice-aggregate-commas t c = refl
 
-list-slice-aggregate-comma-separated-2 : (t : ℕ) → list-lts.Need-slice-aggregate-comma-separated-2 (claims-list t) (list-at t) list.Post
-list-slice-aggregate-comma-separated-2 t c = refl
+list-slice-aggregate-commas-2 : (t : ℕ) → list-lts.Need-slice-aggregate-commas-2 (claims-list t) (list-at t) list.Post
+list-slice-aggregate-commas-2 t c = refl
 
-list-comma-separated-requires : (t : ℕ) → list-lts.Need-comma-separated-requires (claims-list t) (list-at t) list.Post
-list-comma-separated-requires t c κs = (omega (arith, (c .before .before .before .before .before .before .before .pre) .0), (c .before .before .before .before .before .before .before .pre) .1)
+list-commas-requires : (t : ℕ) → list-lts.Need-commas-requires (claims-list t) (list-at t) list.Post
+list-commas-requires t c κs = (omega (arith, (c .before .before .before .before .before .before .before .pre) .0), (c .before .before .before .before .before .before .before .pre) .1)
 
 list-returns :
     (t : ℕ) →
     list-lts.Need-returns (claims-list t) (list-at t) list.Post
 unfolding ruleOf
-list-returns t c = λ n. did-commas _ ((c .before .before .comma-separated) .ensures)
+list-returns t c = λ n. did-commas _ ((c .before .before .commas) .ensures)
 
 list-same-length : (t : ℕ) → list-lts.Need-same-length (claims-list t) (list-at t) list.Post
 list-same-length t c = wrote-length (list-returns t c 0 .walked .wrote)
 
-object-slice-aggregate-comma-separated : (t : ℕ) → object-lts.Need-slice-aggregate-comma-separated (claims-object t) (object-at t) object.Post
-object-slice-aggregate-comma-separated t c = refl
+object-slice-aggregate-commas : (t : ℕ) → object-lts.Need-slice-aggregate-commas (claims-object t) (object-at t) object.Post
+object-slice-aggregate-commas t c = refl
 
-object-slice-aggregate-comma-separated-2 :
-    (t : ℕ) → object-lts.Need-slice-aggregate-comma-separated-2 (
-      comma-separated-below t,
-      comma-separated.Post,
+object-slice-aggregate-commas-2 :
+    (t : ℕ) → object-lts.Need-slice-aggregate-commas-2 (
+      commas-below t,
+      commas.Post,
     ) (object-at t) object.Post
-object-slice-aggregate-comma-separated-2 t c = refl
+object-slice-aggregate-commas-2 t c = refl
 
-object-comma-separated-requires : (t : ℕ) → object-lts.Need-comma-separated-requires (claims-object t) (object-at t) object.Post
-object-comma-separated-requires t c κs = (omega (arith, (c .before .before .before .before .before .before .before .pre) .0), (c .before .before .before .before .before .before .before .pre) .1)
+object-commas-requires : (t : ℕ) → object-lts.Need-commas-requires (claims-object t) (object-at t) object.Post
+object-commas-requires t c κs = (omega (arith, (c .before .before .before .before .before .before .before .pre) .0), (c .before .before .before .before .before .before .before .pre) .1)
 
 object-returns :
     (t : ℕ) →
     object-lts.Need-returns
-    (comma-separated-below t, comma-separated.Post)
+    (commas-below t, commas.Post)
     (object-at t)
     object.Post
 unfolding ruleOf
-object-returns t c = λ n. did-commas _ ((c .before .before .comma-separated) .ensures)
+object-returns t c = λ n. did-commas _ ((c .before .before .commas) .ensures)
 
 object-same-length : (t : ℕ) → object-lts.Need-same-length (claims-object t) (object-at t) object.Post
 object-same-length t c = wrote-length (object-returns t c 0 .walked .wrote)
@@ -987,34 +987,34 @@ one-same-length t c = wrote-length ((c .before .before .before .serialize-impl) 
 one-returns-2 : (t : ℕ) → one-lts.Need-returns-2 (claims-one t) (one-at t) one.Post
 one-returns-2 t c = one-done _ ((c .before .before .before .before .before .before .before .before .before .before .before .before .before .pre) .1 .rest) ((c .before .before .before .before .before .if1) .left) ((c .before .before .before .serialize-impl) .ensures) refl ((c .past) .ensures)
 
-optional-braces-is-next-requires : (t : ℕ) → optional-braces-lts.Need-is-next-requires (claims-optional-braces t) (optional-braces-at t) optional-braces.Post
-optional-braces-is-next-requires t c κs = rest-within ((c .before .before .before .before .pre) .1 .rest)
+opt-braces-is-next-requires : (t : ℕ) → opt-braces-lts.Need-is-next-requires (claims-opt-braces t) (opt-braces-at t) opt-braces.Post
+opt-braces-is-next-requires t c κs = rest-within ((c .before .before .before .before .pre) .1 .rest)
 
-optional-braces-slice-aggregate-token : (t : ℕ) → optional-braces-lts.Need-slice-aggregate-token (claims-optional-braces t) (optional-braces-at t) optional-braces.Post
-optional-braces-slice-aggregate-token t c = refl
+opt-braces-slice-aggregate-token : (t : ℕ) → opt-braces-lts.Need-slice-aggregate-token (claims-opt-braces t) (opt-braces-at t) opt-braces.Post
+opt-braces-slice-aggregate-token t c = refl
 
-optional-braces-token-requires : (t : ℕ) → optional-braces-lts.Need-token-requires (claims-optional-braces t) (optional-braces-at t) optional-braces.Post
-optional-braces-token-requires t c κs = tt
+opt-braces-token-requires : (t : ℕ) → opt-braces-lts.Need-token-requires (claims-opt-braces t) (opt-braces-at t) opt-braces.Post
+opt-braces-token-requires t c κs = tt
 
-optional-braces-curly-brackets-requires :
-    (t : ℕ) → optional-braces-lts.Need-curly-brackets-requires (
+opt-braces-curly-requires :
+    (t : ℕ) → opt-braces-lts.Need-curly-requires (
       is-next-reads.Asked,
       is-next-reads.Learnt,
       token-reads.Asked,
       token-reads.Learnt,
-      curly-brackets-below t,
-      curly-brackets.Post,
-    ) (optional-braces-at t) optional-braces.Post
-optional-braces-curly-brackets-requires t c κs = (omega (arith, (c .before .before .before .before .before .before .before .before .before .before .before .before .pre) .0), jobs-kept ((c .before .before .before .before .before .before .before .before .before .before .before .before .pre) .1) ((c .before .before .before .token) .ensures))
+      curly-below t,
+      curly.Post,
+    ) (opt-braces-at t) opt-braces.Post
+opt-braces-curly-requires t c κs = (omega (arith, (c .before .before .before .before .before .before .before .before .before .before .before .before .pre) .0), jobs-kept ((c .before .before .before .before .before .before .before .before .before .before .before .before .pre) .1) ((c .before .before .before .token) .ensures))
 
-optional-braces-returns : (t : ℕ) → optional-braces-lts.Need-returns (claims-optional-braces t) (optional-braces-at t) optional-braces.Post
-optional-braces-returns t c = λ n. a-child _ (rest-ranged ((c .before .before .before .before .before .before .before .before .before .before .before .before .before .before .before .pre) .1 .rest)) _ (sym ((c .before .before .before .before .before .before .before .before .before .before .is-next) .ensures) ∙ (c .before .before .before .before .before .before .before .before .before .if1) .taken) (did-tokens sp refl ((c .before .before .before .before .before .before .token) .ensures) ⨾ did-braces _ ((c .before .before .curly-brackets) .ensures))
+opt-braces-returns : (t : ℕ) → opt-braces-lts.Need-returns (claims-opt-braces t) (opt-braces-at t) opt-braces.Post
+opt-braces-returns t c = λ n. a-child _ (rest-ranged ((c .before .before .before .before .before .before .before .before .before .before .before .before .before .before .before .pre) .1 .rest)) _ (sym ((c .before .before .before .before .before .before .before .before .before .before .is-next) .ensures) ∙ (c .before .before .before .before .before .before .before .before .before .if1) .taken) (did-tokens sp refl ((c .before .before .before .before .before .before .token) .ensures) ⨾ did-braces _ ((c .before .before .curly) .ensures))
 
-optional-braces-same-length : (t : ℕ) → optional-braces-lts.Need-same-length (claims-optional-braces t) (optional-braces-at t) optional-braces.Post
-optional-braces-same-length t c = wrote-length (optional-braces-returns t c 0 .walked .wrote)
+opt-braces-same-length : (t : ℕ) → opt-braces-lts.Need-same-length (claims-opt-braces t) (opt-braces-at t) opt-braces.Post
+opt-braces-same-length t c = wrote-length (opt-braces-returns t c 0 .walked .wrote)
 
-optional-braces-returns-2 : (t : ℕ) → optional-braces-lts.Need-returns-2 (claims-optional-braces t) (optional-braces-at t) optional-braces.Post
-optional-braces-returns-2 t c = λ n. no-child (sp ++ curlyBrackets _ ∷ []) (rest-ranged ((c .before .before .before .before .before .before .pre) .1 .rest)) _ refl (sym ((c .before .is-next) .ensures) ∙ (c .if1) .left) (kept-none (record { place = omega arith; size = omega arith }))
+opt-braces-returns-2 : (t : ℕ) → opt-braces-lts.Need-returns-2 (claims-opt-braces t) (opt-braces-at t) opt-braces.Post
+opt-braces-returns-2 t c = λ n. no-child (sp ++ curlyBrackets _ ∷ []) (rest-ranged ((c .before .before .before .before .before .before .pre) .1 .rest)) _ refl (sym ((c .before .is-next) .ensures) ∙ (c .if1) .left) (kept-none (record { place = omega arith; size = omega arith }))
 
 serialize-impl-kind-requires : (t : ℕ) → serialize-impl-lts.Need-kind-requires (claims-serialize-impl t) (serialize-impl-at t) serialize-impl.Post
 serialize-impl-kind-requires t c κs = job-in-table ((c .before .before .before .before .pre) .1 .0)
@@ -1040,11 +1040,11 @@ serialize-impl-argument-requires t c κs = (omega (arith, (c .before .before .be
 serialize-impl-variable-requires : (t : ℕ) → serialize-impl-lts.Need-variable-requires (claims-serialize-impl t) (serialize-impl-at t) serialize-impl.Post
 serialize-impl-variable-requires t c κs = (omega (arith, (c .before .before .before .before .before .before .before .before .before .pre) .0, job-deep ((c .before .before .before .before .before .before .before .before .before .pre) .1 .0)), parts-of ((c .before .before .before .before .before .before .before .before .before .pre) .1 .0) ((c .before .before .before .end) .ensures .is))
 
-serialize-impl-input-value-requires : (t : ℕ) → serialize-impl-lts.Need-input-value-requires (claims-serialize-impl t) (serialize-impl-at t) serialize-impl.Post
-serialize-impl-input-value-requires t c κs = (omega (arith, (c .before .before .before .before .before .before .before .before .before .pre) .0, job-deep ((c .before .before .before .before .before .before .before .before .before .pre) .1 .0)), parts-of ((c .before .before .before .before .before .before .before .before .before .pre) .1 .0) ((c .before .before .before .end) .ensures .is))
+serialize-impl-input-requires : (t : ℕ) → serialize-impl-lts.Need-input-requires (claims-serialize-impl t) (serialize-impl-at t) serialize-impl.Post
+serialize-impl-input-requires t c κs = (omega (arith, (c .before .before .before .before .before .before .before .before .before .pre) .0, job-deep ((c .before .before .before .before .before .before .before .before .before .pre) .1 .0)), parts-of ((c .before .before .before .before .before .before .before .before .before .pre) .1 .0) ((c .before .before .before .end) .ensures .is))
 
-serialize-impl-field-definition-requires :
-    (t : ℕ) → serialize-impl-lts.Need-field-definition-requires (
+serialize-impl-field-def-requires :
+    (t : ℕ) → serialize-impl-lts.Need-field-def-requires (
       kind-reads.Asked,
       kind-reads.Learnt,
       end-reads.Asked,
@@ -1057,10 +1057,10 @@ serialize-impl-field-definition-requires :
       argument.Post,
       variable-below t,
       variable.Post,
-      input-value-below t,
-      input-value.Post,
-      field-definition-below t,
-      field-definition.Post,
+      input-below t,
+      input.Post,
+      field-def-below t,
+      field-def.Post,
       enum-value-below t,
       enum-value.Post,
       root-operation-reads.Asked,
@@ -1080,7 +1080,7 @@ serialize-impl-field-definition-requires :
       value-below t,
       value.Post,
     ) (serialize-impl-at t) serialize-impl.Post
-serialize-impl-field-definition-requires t c κs = (omega (arith, (c .before .before .before .before .before .before .before .before .before .pre) .0, job-deep ((c .before .before .before .before .before .before .before .before .before .pre) .1 .0)), parts-of ((c .before .before .before .before .before .before .before .before .before .pre) .1 .0) ((c .before .before .before .end) .ensures .is))
+serialize-impl-field-def-requires t c κs = (omega (arith, (c .before .before .before .before .before .before .before .before .before .pre) .0, job-deep ((c .before .before .before .before .before .before .before .before .before .pre) .1 .0)), parts-of ((c .before .before .before .before .before .before .before .before .before .pre) .1 .0) ((c .before .before .before .end) .ensures .is))
 
 serialize-impl-enum-value-requires : (t : ℕ) → serialize-impl-lts.Need-enum-value-requires (claims-serialize-impl t) (serialize-impl-at t) serialize-impl.Post
 serialize-impl-enum-value-requires t c κs = (omega (arith, (c .before .before .before .before .before .before .before .before .before .pre) .0, job-deep ((c .before .before .before .before .before .before .before .before .before .pre) .1 .0)), parts-of ((c .before .before .before .before .before .before .before .before .before .pre) .1 .0) ((c .before .before .before .end) .ensures .is))
@@ -1148,14 +1148,14 @@ serialize-impl-same-length-4 t c = wrote-length (serialize-impl-returns-4 t c)
 
 serialize-impl-returns-5 : (t : ℕ) → serialize-impl-lts.Need-returns-5 (claims-serialize-impl t) (serialize-impl-at t) serialize-impl.Post
 unfolding ruleOf
-serialize-impl-returns-5 t c = node-written (ap ruleOf (sym ((c .before .before .before .before .before .before .before .before .kind) .ensures .is) ∙ (c .before .before .before .before .before .match) .keys5)) ((c .before .before .before .before .before .before .before .end) .ensures .is) refl ((c .before .before .before .input-value) .ensures)
+serialize-impl-returns-5 t c = node-written (ap ruleOf (sym ((c .before .before .before .before .before .before .before .before .kind) .ensures .is) ∙ (c .before .before .before .before .before .match) .keys5)) ((c .before .before .before .before .before .before .before .end) .ensures .is) refl ((c .before .before .before .input) .ensures)
 
 serialize-impl-same-length-5 : (t : ℕ) → serialize-impl-lts.Need-same-length-5 (claims-serialize-impl t) (serialize-impl-at t) serialize-impl.Post
 serialize-impl-same-length-5 t c = wrote-length (serialize-impl-returns-5 t c)
 
 serialize-impl-returns-6 : (t : ℕ) → serialize-impl-lts.Need-returns-6 (claims-serialize-impl t) (serialize-impl-at t) serialize-impl.Post
 unfolding ruleOf
-serialize-impl-returns-6 t c = node-written (ap ruleOf (sym ((c .before .before .before .before .before .before .before .before .kind) .ensures .is) ∙ (c .before .before .before .before .before .match) .keys6)) ((c .before .before .before .before .before .before .before .end) .ensures .is) refl ((c .before .before .before .field-definition) .ensures)
+serialize-impl-returns-6 t c = node-written (ap ruleOf (sym ((c .before .before .before .before .before .before .before .before .kind) .ensures .is) ∙ (c .before .before .before .before .before .match) .keys6)) ((c .before .before .before .before .before .before .before .end) .ensures .is) refl ((c .before .before .before .field-def) .ensures)
 
 serialize-impl-same-length-6 : (t : ℕ) → serialize-impl-lts.Need-same-length-6 (claims-serialize-impl t) (serialize-impl-at t) serialize-impl.Post
 serialize-impl-same-length-6 t c = wrote-length (serialize-impl-returns-6 t c)
@@ -1254,33 +1254,33 @@ signature-any-marked-requires t c κs = rest-ranged ((c .before .before .before 
 signature-single-line-unless-requires : (t : ℕ) → signature-lts.Need-single-line-unless-requires (claims-signature t) (signature-at t) signature.Post
 signature-single-line-unless-requires t c κs = tt
 
-signature-slice-aggregate-comma-separated :
-    (t : ℕ) → signature-lts.Need-slice-aggregate-comma-separated (
+signature-slice-aggregate-commas :
+    (t : ℕ) → signature-lts.Need-slice-aggregate-commas (
       any-marked-reads.Asked,
       any-marked-reads.Learnt,
       single-line-unless-reads.Asked,
       single-line-unless-reads.Learnt,
-      comma-separated-below t,
-      comma-separated.Post,
+      commas-below t,
+      commas.Post,
     ) (signature-at t) signature.Post
-signature-slice-aggregate-comma-separated t c = refl
+signature-slice-aggregate-commas t c = refl
 
-signature-slice-aggregate-comma-separated-2 :
-    (t : ℕ) → signature-lts.Need-slice-aggregate-comma-separated-2 (
+signature-slice-aggregate-commas-2 :
+    (t : ℕ) → signature-lts.Need-slice-aggregate-commas-2 (
       any-marked-reads.Asked,
       any-marked-reads.Learnt,
       single-line-unless-reads.Asked,
       single-line-unless-reads.Learnt,
-      comma-separated-below t,
-      comma-separated.Post,
+      commas-below t,
+      commas.Post,
     ) (signature-at t) signature.Post
-signature-slice-aggregate-comma-separated-2 t c = refl
+signature-slice-aggregate-commas-2 t c = refl
 
-signature-comma-separated-requires : (t : ℕ) → signature-lts.Need-comma-separated-requires (claims-signature t) (signature-at t) signature.Post
-signature-comma-separated-requires t c κs = (omega (arith, (c .before .before .before .before .before .before .before .before .before .pre) .0), jobs-lines ((c .before .before .before .before .before .before .before .before .before .args) .state) ((c .before .before .before .before .any-marked) .result) ((c .before .before .before .before .before .before .before .before .before .pre) .1) ((c .before .before .before .single-line-unless) .ensures))
+signature-commas-requires : (t : ℕ) → signature-lts.Need-commas-requires (claims-signature t) (signature-at t) signature.Post
+signature-commas-requires t c κs = (omega (arith, (c .before .before .before .before .before .before .before .before .before .pre) .0), jobs-lines ((c .before .before .before .before .before .before .before .before .before .args) .state) ((c .before .before .before .before .any-marked) .result) ((c .before .before .before .before .before .before .before .before .before .pre) .1) ((c .before .before .before .single-line-unless) .ensures))
 
 signature-returns : (t : ℕ) → signature-lts.Need-returns (claims-signature t) (signature-at t) signature.Post
-signature-returns t c = λ n. did-lines (ofKind 22) _ ((c .before .before .before .before .before .before .before .any-marked) .ensures) ((c .before .before .before .before .before .before .single-line-unless) .ensures _) ((c .before .before .comma-separated) .ensures)
+signature-returns t c = λ n. did-lines (ofKind 22) _ ((c .before .before .before .before .before .before .before .any-marked) .ensures) ((c .before .before .before .before .before .before .single-line-unless) .ensures _) ((c .before .before .commas) .ensures)
 
 signature-same-length : (t : ℕ) → signature-lts.Need-same-length (claims-signature t) (signature-at t) signature.Post
 signature-same-length t c = wrote-length (signature-returns t c 0 .walked .wrote)
@@ -1415,41 +1415,41 @@ variable-token-requires-2 t c κs = tt
 variable-one-requires : (t : ℕ) → variable-lts.Need-one-requires (claims-variable t) (variable-at t) variable.Post
 variable-one-requires t c κs = (omega (arith, (c .before .before .before .before .before .before .before .before .before .before .before .before .before .before .before .before .before .before .before .pre) .0), here (jobs-kept (jobs-kept (jobs-kept ((c .before .before .before .before .before .before .before .before .before .before .before .before .before .before .before .before .before .before .before .pre) .1 .jobs) ((c .before .before .before .before .before .before .before .before .before .before .before .before .token) .ensures)) ((c .before .before .before .before .before .before .before .before .name) .ensures)) ((c .before .before .before .token2) .ensures)))
 
-variable-default-value-requires : (t : ℕ) → variable-lts.Need-default-value-requires (claims-variable t) (variable-at t) variable.Post
-variable-default-value-requires t c κs = (omega (arith, (c .before .before .before .before .before .before .before .before .before .before .before .before .before .before .before .before .before .before .before .before .before .before .before .pre) .0), here (jobs-walked (jobs-kept (jobs-kept (jobs-kept ((c .before .before .before .before .before .before .before .before .before .before .before .before .before .before .before .before .before .before .before .before .before .before .before .pre) .1 .jobs) ((c .before .before .before .before .before .before .before .before .before .before .before .before .before .before .before .before .token) .ensures)) ((c .before .before .before .before .before .before .before .before .before .before .before .before .name) .ensures)) ((c .before .before .before .before .before .before .before .token2) .ensures)) ((c .before .before .before .one) .ensures)))
+variable-default-requires : (t : ℕ) → variable-lts.Need-default-requires (claims-variable t) (variable-at t) variable.Post
+variable-default-requires t c κs = (omega (arith, (c .before .before .before .before .before .before .before .before .before .before .before .before .before .before .before .before .before .before .before .before .before .before .before .pre) .0), here (jobs-walked (jobs-kept (jobs-kept (jobs-kept ((c .before .before .before .before .before .before .before .before .before .before .before .before .before .before .before .before .before .before .before .before .before .before .before .pre) .1 .jobs) ((c .before .before .before .before .before .before .before .before .before .before .before .before .before .before .before .before .token) .ensures)) ((c .before .before .before .before .before .before .before .before .before .before .before .before .name) .ensures)) ((c .before .before .before .before .before .before .before .token2) .ensures)) ((c .before .before .before .one) .ensures)))
 
 variable-directives-requires : (t : ℕ) → variable-lts.Need-directives-requires (claims-variable t) (variable-at t) variable.Post
-variable-directives-requires t c κs = (omega (arith, (c .before .before .before .before .before .before .before .before .before .before .before .before .before .before .before .before .before .before .before .before .before .before .before .before .before .before .before .pre) .0), here (jobs-walked (jobs-walked (jobs-kept (jobs-kept (jobs-kept ((c .before .before .before .before .before .before .before .before .before .before .before .before .before .before .before .before .before .before .before .before .before .before .before .before .before .before .before .pre) .1 .jobs) ((c .before .before .before .before .before .before .before .before .before .before .before .before .before .before .before .before .before .before .before .before .token) .ensures)) ((c .before .before .before .before .before .before .before .before .before .before .before .before .before .before .before .before .name) .ensures)) ((c .before .before .before .before .before .before .before .before .before .before .before .token2) .ensures)) ((c .before .before .before .before .before .before .before .one) .ensures)) ((c .before .before .before .default-value) .ensures 0 .walked)))
+variable-directives-requires t c κs = (omega (arith, (c .before .before .before .before .before .before .before .before .before .before .before .before .before .before .before .before .before .before .before .before .before .before .before .before .before .before .before .pre) .0), here (jobs-walked (jobs-walked (jobs-kept (jobs-kept (jobs-kept ((c .before .before .before .before .before .before .before .before .before .before .before .before .before .before .before .before .before .before .before .before .before .before .before .before .before .before .before .pre) .1 .jobs) ((c .before .before .before .before .before .before .before .before .before .before .before .before .before .before .before .before .before .before .before .before .token) .ensures)) ((c .before .before .before .before .before .before .before .before .before .before .before .before .before .before .before .before .name) .ensures)) ((c .before .before .before .before .before .before .before .before .before .before .before .token2) .ensures)) ((c .before .before .before .before .before .before .before .one) .ensures)) ((c .before .before .before .default) .ensures 0 .walked)))
 
 variable-returns : (t : ℕ) → variable-lts.Need-returns (claims-variable t) (variable-at t) variable.Post
 unfolding ruleOf
-variable-returns t c = did-tokens (token "$") refl ((c .before .before .before .before .before .before .before .before .before .before .before .before .before .before .before .before .before .before .before .before .before .before .before .token) .ensures) ⨾ did-name ((c .before .before .before .before .before .before .before .before .before .before .before .before .before .before .before .before .before .before .before .name) .ensures) ⨾ did-tokens (token ":" ++ sp) refl ((c .before .before .before .before .before .before .before .before .before .before .before .before .before .before .token2) .ensures) ⨾ did-one type ((c .before .before .before .before .before .before .before .before .before .before .one) .ensures) ⨾ (c .before .before .before .before .before .before .default-value) .ensures _ ⨾ did-spaced _ ((c .before .before .directives) .ensures)
+variable-returns t c = did-tokens (token "$") refl ((c .before .before .before .before .before .before .before .before .before .before .before .before .before .before .before .before .before .before .before .before .before .before .before .token) .ensures) ⨾ did-name ((c .before .before .before .before .before .before .before .before .before .before .before .before .before .before .before .before .before .before .before .name) .ensures) ⨾ did-tokens (token ":" ++ sp) refl ((c .before .before .before .before .before .before .before .before .before .before .before .before .before .before .token2) .ensures) ⨾ did-one type ((c .before .before .before .before .before .before .before .before .before .before .one) .ensures) ⨾ (c .before .before .before .before .before .before .default) .ensures _ ⨾ did-spaced _ ((c .before .before .directives) .ensures)
 
 variable-same-length : (t : ℕ) → variable-lts.Need-same-length (claims-variable t) (variable-at t) variable.Post
 variable-same-length t c = wrote-length (variable-returns t c .walked .wrote)
 
-pub +argument+arguments+arguments-definition+comma-separated+curly-brackets+default-value+directive+directives+each+enum-value+field+field-definition+inline+input-value+list+object+one+optional-braces+serialize-impl+signature+spread+value+variable-spec :
+pub +argument+arguments+arguments-def+commas+curly+default+directive+directives+each+enum-value+field+field-def+inline+input+list+object+one+opt-braces+serialize-impl+signature+spread+value+variable-spec :
     {M : Type 1} → statement M
-+argument+arguments+arguments-definition+comma-separated+curly-brackets+default-value+directive+directives+each+enum-value+field+field-definition+inline+input-value+list+object+one+optional-braces+serialize-impl+signature+spread+value+variable-spec =
++argument+arguments+arguments-def+commas+curly+default+directive+directives+each+enum-value+field+field-def+inline+input+list+object+one+opt-braces+serialize-impl+signature+spread+value+variable-spec =
     close
     μ-argument
     μ-arguments
-    μ-arguments-definition
-    μ-comma-separated
-    μ-curly-brackets
-    μ-default-value
+    μ-arguments-def
+    μ-commas
+    μ-curly
+    μ-default
     μ-directive
     μ-directives
     μ-each
     μ-enum-value
     μ-field
-    μ-field-definition
+    μ-field-def
     μ-inline
-    μ-input-value
+    μ-input
     μ-list
     μ-object
     μ-one
-    μ-optional-braces
+    μ-opt-braces
     μ-serialize-impl
     μ-signature
     μ-spread
@@ -1476,33 +1476,33 @@ pub +argument+arguments+arguments-definition+comma-separated+curly-brackets+defa
       is-next-reads.Learnt,
       on-single-line-reads.Asked,
       on-single-line-reads.Learnt,
-      comma-separated-below t,
-      comma-separated.Post,
+      commas-below t,
+      commas.Post,
     )
     (arguments-at t)
     arguments.Post
     (arguments-is-next-requires t)
-    (arguments-slice-aggregate-comma-separated t)
-    (arguments-slice-aggregate-comma-separated-2 t)
+    (arguments-slice-aggregate-commas t)
+    (arguments-slice-aggregate-commas-2 t)
     (arguments-on-single-line-requires t)
-    (arguments-comma-separated-requires t)
+    (arguments-commas-requires t)
     (arguments-same-length t)
     (arguments-returns t)
     (arguments-returns-2 t))
-    (λ t. arguments-definition-lts.spec (
+    (λ t. arguments-def-lts.spec (
       is-next-reads.Asked,
       is-next-reads.Learnt,
       signature-below t,
       signature.Post,
     )
-    (arguments-definition-at t)
-    arguments-definition.Post
-    (arguments-definition-is-next-requires t)
-    (arguments-definition-signature-requires t)
-    (arguments-definition-same-length t)
-    (arguments-definition-returns t)
-    (arguments-definition-returns-2 t))
-    (λ t. comma-separated-lts.spec (
+    (arguments-def-at t)
+    arguments-def.Post
+    (arguments-def-is-next-requires t)
+    (arguments-def-signature-requires t)
+    (arguments-def-same-length t)
+    (arguments-def-returns t)
+    (arguments-def-returns-2 t))
+    (λ t. commas-lts.spec (
       token-reads.Asked,
       token-reads.Learnt,
       is-next-reads.Asked,
@@ -1518,23 +1518,23 @@ pub +argument+arguments+arguments-definition+comma-separated+curly-brackets+defa
       trailing-comma-reads.Asked,
       trailing-comma-reads.Learnt,
     )
-    (comma-separated-at t)
-    comma-separated.Post
-    (comma-separated-token-requires t)
-    (comma-separated-is-next-requires t)
-    (comma-separated-deeper-requires t)
-    (comma-separated-new-line-requires t)
-    (comma-separated-one-requires t)
-    (comma-separated-each-requires t)
-    (comma-separated-trailing-comma-requires t)
-    (comma-separated-new-line-requires-2 t)
-    (comma-separated-token-requires-2 t)
-    (comma-separated-same-length t)
-    (comma-separated-returns t)
-    (comma-separated-token-requires-3 t)
-    (comma-separated-same-length-2 t)
-    (comma-separated-returns-2 t))
-    (λ t. curly-brackets-lts.spec (
+    (commas-at t)
+    commas.Post
+    (commas-token-requires t)
+    (commas-is-next-requires t)
+    (commas-deeper-requires t)
+    (commas-new-line-requires t)
+    (commas-one-requires t)
+    (commas-each-requires t)
+    (commas-trailing-comma-requires t)
+    (commas-new-line-requires-2 t)
+    (commas-token-requires-2 t)
+    (commas-same-length t)
+    (commas-returns t)
+    (commas-token-requires-3 t)
+    (commas-same-length-2 t)
+    (commas-returns-2 t))
+    (λ t. curly-lts.spec (
       token-reads.Asked,
       token-reads.Learnt,
       is-next-reads.Asked,
@@ -1546,23 +1546,23 @@ pub +argument+arguments+arguments-definition+comma-separated+curly-brackets+defa
       new-line-or-space-reads.Asked,
       new-line-or-space-reads.Learnt,
     )
-    (curly-brackets-at t)
-    curly-brackets.Post
-    (curly-brackets-slice-aggregate-token t)
-    (curly-brackets-token-requires t)
-    (curly-brackets-is-next-requires t)
-    (curly-brackets-deeper-requires t)
-    (curly-brackets-each-requires t)
-    (curly-brackets-new-line-or-space-requires t)
-    (curly-brackets-slice-aggregate-token-2 t)
-    (curly-brackets-token-requires-2 t)
-    (curly-brackets-same-length t)
-    (curly-brackets-returns t)
-    (curly-brackets-slice-aggregate-token-3 t)
-    (curly-brackets-token-requires-3 t)
-    (curly-brackets-same-length-2 t)
-    (curly-brackets-returns-2 t))
-    (λ t. default-value-lts.spec (
+    (curly-at t)
+    curly.Post
+    (curly-slice-aggregate-token t)
+    (curly-token-requires t)
+    (curly-is-next-requires t)
+    (curly-deeper-requires t)
+    (curly-each-requires t)
+    (curly-new-line-or-space-requires t)
+    (curly-slice-aggregate-token-2 t)
+    (curly-token-requires-2 t)
+    (curly-same-length t)
+    (curly-returns t)
+    (curly-slice-aggregate-token-3 t)
+    (curly-token-requires-3 t)
+    (curly-same-length-2 t)
+    (curly-returns-2 t))
+    (λ t. default-lts.spec (
       is-next-reads.Asked,
       is-next-reads.Learnt,
       token-reads.Asked,
@@ -1570,15 +1570,15 @@ pub +argument+arguments+arguments-definition+comma-separated+curly-brackets+defa
       one-below t,
       one.Post,
     )
-    (default-value-at t)
-    default-value.Post
-    (default-value-is-next-requires t)
-    (default-value-slice-aggregate-token t)
-    (default-value-token-requires t)
-    (default-value-one-requires t)
-    (default-value-same-length t)
-    (default-value-returns t)
-    (default-value-returns-2 t))
+    (default-at t)
+    default.Post
+    (default-is-next-requires t)
+    (default-slice-aggregate-token t)
+    (default-token-requires t)
+    (default-one-requires t)
+    (default-same-length t)
+    (default-returns t)
+    (default-returns-2 t))
     (λ t. directive-lts.spec (
       token-reads.Asked,
       token-reads.Learnt,
@@ -1648,8 +1648,8 @@ pub +argument+arguments+arguments-definition+comma-separated+curly-brackets+defa
       arguments.Post,
       directives-below t,
       directives.Post,
-      optional-braces-below t,
-      optional-braces.Post,
+      opt-braces-below t,
+      opt-braces.Post,
     )
     (field-at t)
     field.Post
@@ -1657,16 +1657,16 @@ pub +argument+arguments+arguments-definition+comma-separated+curly-brackets+defa
     (field-name-requires t)
     (field-arguments-requires t)
     (field-directives-requires t)
-    (field-optional-braces-requires t)
+    (field-opt-braces-requires t)
     (field-same-length t)
     (field-returns t))
-    (λ t. field-definition-lts.spec (
+    (λ t. field-def-lts.spec (
       serialize-description-reads.Asked,
       serialize-description-reads.Learnt,
       name-reads.Asked,
       name-reads.Learnt,
-      arguments-definition-below t,
-      arguments-definition.Post,
+      arguments-def-below t,
+      arguments-def.Post,
       token-reads.Asked,
       token-reads.Learnt,
       one-below t,
@@ -1674,17 +1674,17 @@ pub +argument+arguments+arguments-definition+comma-separated+curly-brackets+defa
       directives-below t,
       directives.Post,
     )
-    (field-definition-at t)
-    field-definition.Post
-    (field-definition-serialize-description-requires t)
-    (field-definition-name-requires t)
-    (field-definition-arguments-definition-requires t)
-    (field-definition-slice-aggregate-token t)
-    (field-definition-token-requires t)
-    (field-definition-one-requires t)
-    (field-definition-directives-requires t)
-    (field-definition-same-length t)
-    (field-definition-returns t))
+    (field-def-at t)
+    field-def.Post
+    (field-def-serialize-description-requires t)
+    (field-def-name-requires t)
+    (field-def-arguments-def-requires t)
+    (field-def-slice-aggregate-token t)
+    (field-def-token-requires t)
+    (field-def-one-requires t)
+    (field-def-directives-requires t)
+    (field-def-same-length t)
+    (field-def-returns t))
     (λ t. inline-lts.spec (
       token-reads.Asked,
       token-reads.Learnt,
@@ -1692,8 +1692,8 @@ pub +argument+arguments+arguments-definition+comma-separated+curly-brackets+defa
       if-named-reads.Learnt,
       directives-below t,
       directives.Post,
-      curly-brackets-below t,
-      curly-brackets.Post,
+      curly-below t,
+      curly.Post,
     )
     (inline-at t)
     inline.Post
@@ -1704,10 +1704,10 @@ pub +argument+arguments+arguments-definition+comma-separated+curly-brackets+defa
     (inline-directives-requires t)
     (inline-slice-aggregate-token-2 t)
     (inline-token-requires-2 t)
-    (inline-curly-brackets-requires t)
+    (inline-curly-requires t)
     (inline-same-length t)
     (inline-returns t))
-    (λ t. input-value-lts.spec (
+    (λ t. input-lts.spec (
       serialize-description-reads.Asked,
       serialize-description-reads.Learnt,
       name-reads.Asked,
@@ -1716,38 +1716,38 @@ pub +argument+arguments+arguments-definition+comma-separated+curly-brackets+defa
       token-reads.Learnt,
       one-below t,
       one.Post,
-      default-value-below t,
-      default-value.Post,
+      default-below t,
+      default.Post,
       directives-below t,
       directives.Post,
     )
-    (input-value-at t)
-    input-value.Post
-    (input-value-serialize-description-requires t)
-    (input-value-name-requires t)
-    (input-value-slice-aggregate-token t)
-    (input-value-token-requires t)
-    (input-value-one-requires t)
-    (input-value-default-value-requires t)
-    (input-value-directives-requires t)
-    (input-value-same-length t)
-    (input-value-returns t))
+    (input-at t)
+    input.Post
+    (input-serialize-description-requires t)
+    (input-name-requires t)
+    (input-slice-aggregate-token t)
+    (input-token-requires t)
+    (input-one-requires t)
+    (input-default-requires t)
+    (input-directives-requires t)
+    (input-same-length t)
+    (input-returns t))
     (λ t. list-lts.spec
-    (comma-separated-below t, comma-separated.Post)
+    (commas-below t, commas.Post)
     (list-at t)
     list.Post
-    (list-slice-aggregate-comma-separated t)
-    (list-slice-aggregate-comma-separated-2 t)
-    (list-comma-separated-requires t)
+    (list-slice-aggregate-commas t)
+    (list-slice-aggregate-commas-2 t)
+    (list-commas-requires t)
     (list-same-length t)
     (list-returns t))
     (λ t. object-lts.spec
-    (comma-separated-below t, comma-separated.Post)
+    (commas-below t, commas.Post)
     (object-at t)
     object.Post
-    (object-slice-aggregate-comma-separated t)
-    (object-slice-aggregate-comma-separated-2 t)
-    (object-comma-separated-requires t)
+    (object-slice-aggregate-commas t)
+    (object-slice-aggregate-commas-2 t)
+    (object-commas-requires t)
     (object-same-length t)
     (object-returns t))
     (λ t. one-lts.spec (
@@ -1763,23 +1763,23 @@ pub +argument+arguments+arguments-definition+comma-separated+curly-brackets+defa
     (one-past-requires t)
     (one-same-length t)
     (one-returns-2 t))
-    (λ t. optional-braces-lts.spec (
+    (λ t. opt-braces-lts.spec (
       is-next-reads.Asked,
       is-next-reads.Learnt,
       token-reads.Asked,
       token-reads.Learnt,
-      curly-brackets-below t,
-      curly-brackets.Post,
+      curly-below t,
+      curly.Post,
     )
-    (optional-braces-at t)
-    optional-braces.Post
-    (optional-braces-is-next-requires t)
-    (optional-braces-slice-aggregate-token t)
-    (optional-braces-token-requires t)
-    (optional-braces-curly-brackets-requires t)
-    (optional-braces-same-length t)
-    (optional-braces-returns t)
-    (optional-braces-returns-2 t))
+    (opt-braces-at t)
+    opt-braces.Post
+    (opt-braces-is-next-requires t)
+    (opt-braces-slice-aggregate-token t)
+    (opt-braces-token-requires t)
+    (opt-braces-curly-requires t)
+    (opt-braces-same-length t)
+    (opt-braces-returns t)
+    (opt-braces-returns-2 t))
     (λ t. serialize-impl-lts.spec (
       kind-reads.Asked,
       kind-reads.Learnt,
@@ -1793,10 +1793,10 @@ pub +argument+arguments+arguments-definition+comma-separated+curly-brackets+defa
       argument.Post,
       variable-below t,
       variable.Post,
-      input-value-below t,
-      input-value.Post,
-      field-definition-below t,
-      field-definition.Post,
+      input-below t,
+      input.Post,
+      field-def-below t,
+      field-def.Post,
       enum-value-below t,
       enum-value.Post,
       root-operation-reads.Asked,
@@ -1826,8 +1826,8 @@ pub +argument+arguments+arguments-definition+comma-separated+curly-brackets+defa
     (serialize-impl-directive-requires t)
     (serialize-impl-argument-requires t)
     (serialize-impl-variable-requires t)
-    (serialize-impl-input-value-requires t)
-    (serialize-impl-field-definition-requires t)
+    (serialize-impl-input-requires t)
+    (serialize-impl-field-def-requires t)
     (serialize-impl-enum-value-requires t)
     (serialize-impl-root-operation-requires t)
     (serialize-impl-name-requires t)
@@ -1883,16 +1883,16 @@ pub +argument+arguments+arguments-definition+comma-separated+curly-brackets+defa
       any-marked-reads.Learnt,
       single-line-unless-reads.Asked,
       single-line-unless-reads.Learnt,
-      comma-separated-below t,
-      comma-separated.Post,
+      commas-below t,
+      commas.Post,
     )
     (signature-at t)
     signature.Post
     (signature-any-marked-requires t)
     (signature-single-line-unless-requires t)
-    (signature-slice-aggregate-comma-separated t)
-    (signature-slice-aggregate-comma-separated-2 t)
-    (signature-comma-separated-requires t)
+    (signature-slice-aggregate-commas t)
+    (signature-slice-aggregate-commas-2 t)
+    (signature-commas-requires t)
     (signature-same-length t)
     (signature-returns t))
     (λ t. spread-lts.spec (
@@ -1964,8 +1964,8 @@ pub +argument+arguments+arguments-definition+comma-separated+curly-brackets+defa
       name-reads.Learnt,
       one-below t,
       one.Post,
-      default-value-below t,
-      default-value.Post,
+      default-below t,
+      default.Post,
       directives-below t,
       directives.Post,
     )
@@ -1977,7 +1977,7 @@ pub +argument+arguments+arguments-definition+comma-separated+curly-brackets+defa
     (variable-slice-aggregate-token-2 t)
     (variable-token-requires-2 t)
     (variable-one-requires t)
-    (variable-default-value-requires t)
+    (variable-default-requires t)
     (variable-directives-requires t)
     (variable-same-length t)
     (variable-returns t)
