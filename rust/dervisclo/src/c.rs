@@ -1,4 +1,14 @@
 //! The C interface, as `include/dervisclo.h` has it. The safe functions of this crate are the way to use it from Rust.
+//!
+//! ```
+//! let words = [0, 0, 0, 0, 3, 1, 0, 0, 0, 3, 29, 0, 0, 1, 3];
+//! let mut place = 0;
+//! // SAFETY: each pointer comes with the length of the slice behind it.
+//! let number = unsafe {
+//!     dervisclo::c::dervisclo_check_table(words.as_ptr(), words.len(), b"1".as_ptr(), 1, &mut place)
+//! };
+//! assert_eq!((number, place), (7, 2));
+//! ```
 
 unsafe extern "C" {
     /// Prints one literal. Answers document 01's number: 0, or the refusal 1, 2, 7 or 8.
