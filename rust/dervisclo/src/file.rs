@@ -91,7 +91,7 @@ impl fmt::Display for FileRefusal {
         match self {
             Self::Magic => Ok(()),
             Self::Length { told: None, found } => {
-                write!(f, "; 16 bytes tell it, {found} are found")
+                write!(f, "; the lengths end at byte 16, {found} are found")
             }
             Self::Length {
                 told: Some(told),
