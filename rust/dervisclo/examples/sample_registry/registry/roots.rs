@@ -9,17 +9,10 @@ pub fn roots(document: &mut Builder) {
         );
         schema.root_operation(OperationType::Query, "Query");
         schema.root_operation(OperationType::Mutation, "Mutation");
-        schema.root_operation(OperationType::Subscription, "Subscription");
     });
     directives(document);
     query(document);
     mutation(document);
-    document.object_type("Subscription", |subscription| {
-        subscription.field_definition("orderChanged", |changed| {
-            input(changed, "id", "ID!");
-            changed.ty("Order!");
-        });
-    });
 }
 
 fn directives(document: &mut Builder) {

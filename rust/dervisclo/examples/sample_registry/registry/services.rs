@@ -7,7 +7,13 @@ use dervisclo::builder::Builder;
 pub fn services(document: &mut Builder) {
     document.extend_schema(|schema| {
         schema.directive("internal", |_| ());
-        schema.root_operation(OperationType::Query, "StockQuery");
+        schema.root_operation(OperationType::Subscription, "Subscription");
+    });
+    document.object_type("Subscription", |subscription| {
+        subscription.field_definition("orderChanged", |changed| {
+            input(changed, "id", "ID!");
+            changed.ty("Order!");
+        });
     });
     document.extend_scalar("Decimal", |decimal| decimal.directive("internal", |_| ()));
     document.object_type("Shelf", |shelf| {
@@ -17,6 +23,7 @@ pub fn services(document: &mut Builder) {
     });
     document.extend_object("Product", |product| {
         product.interfaces(["Stored"]);
+        plain(product, "isInStock", "Boolean!");
         product.field_definition("shelves", |shelves| {
             input(shelves, "city", "String");
             shelves.ty("[Shelf!]!");

@@ -50,6 +50,7 @@ fn products(document: &mut Builder) {
             text.ty("String");
         });
         plain(product, "price", "Money!");
+        plain(product, "unit", "String");
         product.field_definition("reviews", |reviews| {
             input(reviews, "first", "Int!");
             reviews.ty("[Review!]!");
