@@ -12,19 +12,27 @@ fn query_of_a() -> Table {
     Table::document(|document| document.query("", |query| query.fields(["a"])))
 }
 
+/// The bytes of the lines `00000010  03 00 ..  |..|` of a text.
+fn dumped(text: &str) -> Vec<u8> {
+    let bytes = |line: &str| -> Option<Vec<u8>> {
+        let (dump, _) = line.trim().split_once('|')?;
+        let (offset, bytes) = dump.split_once("  ")?;
+        u32::from_str_radix(offset, 16).ok()?;
+        let bytes = bytes.split_whitespace();
+        bytes
+            .map(|byte| u8::from_str_radix(byte, 16).ok())
+            .collect()
+    };
+    text.lines().filter_map(bytes).flatten().collect()
+}
+
 #[test]
-fn the_query_of_a() {
-    let words = "00000000 00000000 00000000 00000000 03000000 \
-                 01000000 00000000 00000000 00000000 03000000 \
-                 1d000000 00000000 00000000 01000000 03000000";
-    let hex: String = query_of_a()
-        .to_file()
-        .unwrap()
-        .iter()
-        .map(|byte| format!("{byte:02x}"))
-        .collect();
-    let header = "44565441424c4531 0f000000 01000000";
-    assert_eq!(hex, format!("{header}{words}61").replace(' ', ""));
+fn the_query_of_a_is_as_documented() {
+    let path = Path::new(env!("CARGO_MANIFEST_DIR")).join("../../docs/TABLE-FILE.md");
+    let dump = dumped(&std::fs::read_to_string(path).unwrap());
+    assert_eq!(dump.len(), 77);
+    assert_eq!(query_of_a().to_file(), Ok(dump.clone()));
+    assert_eq!(Table::from_file(&dump), Ok(query_of_a()));
 }
 
 #[test]

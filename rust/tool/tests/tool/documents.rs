@@ -13,6 +13,19 @@ fn the_sample_registry_is_the_stored_text() {
     writes(&["print", "-"], &fs::read(&registry).unwrap(), &text);
 }
 
+/// What the README shows between its first words on it and two dots.
+#[test]
+fn the_readme_shows_the_first_lines() {
+    let readme = fs::read_to_string(sample("../README.md")).unwrap();
+    let shown = readme.split_once("requests to it:\n\n").unwrap().1;
+    let shown = shown.split_once("    ..\n").unwrap().0;
+    let text = fs::read_to_string(sample("registry.graphql")).unwrap();
+    assert!(shown.lines().count() >= 20);
+    for (shown, line) in shown.lines().zip(text.lines()) {
+        assert_eq!(shown.strip_prefix("    ").unwrap_or(shown), line);
+    }
+}
+
 #[test]
 fn settings() {
     let table = query_of_a();
