@@ -14,6 +14,7 @@
 //! # Ok::<(), dervisclo::TableRefusal>(())
 //! ```
 
+use crate::table::{MOST_NODES, MOST_POOL, WORDS};
 use crate::{Table, TableRefusal, refusals};
 use std::error::Error;
 use std::fmt;
@@ -37,9 +38,9 @@ pub const HEADER: usize = 16;
 /// Length of the longest file whose table can be accepted: 8,192 nodes and a pool of 65,536 bytes.
 ///
 /// ```
-/// assert_eq!(dervisclo::file::LONGEST, 16 + 4 * 5 * 8_192 + 65_536);
+/// assert_eq!(dervisclo::file::LONGEST, 229_392);
 /// ```
-pub const LONGEST: u64 = 229_392;
+pub const LONGEST: u64 = (HEADER + 4 * WORDS * MOST_NODES + MOST_POOL) as u64;
 
 /// Why a file holds no table.
 ///

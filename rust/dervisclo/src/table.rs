@@ -7,6 +7,10 @@ use crate::{DocumentRefusal, Style, TableRefusal, check_table, print_document_to
 /// Words of one node: kind, variant, text start, text length, end.
 pub(crate) const WORDS: usize = 5;
 
+/// Document 01's limits.
+pub(crate) const MOST_NODES: usize = 8_192;
+pub(crate) const MOST_POOL: usize = 65_536;
+
 /// The words and the pool of a node table.
 ///
 /// ```

@@ -53,6 +53,7 @@ use std::collections::HashMap;
 /// });
 /// assert_eq!((table.nodes(), table.check()), (4, Ok(())));
 /// ```
+#[derive(Debug)]
 pub struct Builder {
     table: Table,
     placed: HashMap<Vec<u8>, u32>,

@@ -1,6 +1,6 @@
 //! Every refusal number: its message and its exit status.
 
-use crate::common::{TOOL, fails, file, finish, query_of_a, run_on};
+use crate::common::{TOOL, fails, file, finish, query_of_a, run_on, sample};
 use dervisclo::builder::Builder;
 use dervisclo::{DocumentRefusal, Style, Table, print_document, refusals};
 use std::ffi::OsStr;
@@ -309,4 +309,51 @@ fn an_endless_input_is_not_read_whole() {
     bytes[8..16].fill(0xff);
     let run = run_on(&["check", "-"], &bytes);
     assert_eq!(run.status, Some(2));
+}
+
+/// The sample with a few bytes changed at a time: the tool says of it what the crate does.
+#[test]
+fn a_damaged_sample_is_refused_as_the_crate_says() {
+    let whole = fs::read(sample("registry.dvt")).unwrap();
+    let mut seen = [0; 22];
+    let mut chance = 1_u64;
+    let mut below = |end: usize| {
+        chance = chance.wrapping_mul(6_364_136_223_846_793_005);
+        chance = chance.wrapping_add(1_442_695_040_888_963_407);
+        (chance >> 33) as usize % end
+    };
+    for turn in 0..400 {
+        let mut bytes = whole.clone();
+        for _ in 0..below(3) {
+            let at = match turn % 4 {
+                0 => below(16),
+                1 => 16 + 4 * below(2_200),
+                _ => below(bytes.len()),
+            };
+            bytes[at] = below(60) as u8;
+        }
+        if turn % 10 == 0 {
+            bytes.truncate(below(whole.len()));
+        }
+        let refusal = match Table::from_file(&bytes) {
+            Err(refusal) => Some((refusal.number(), refusal.to_string())),
+            Ok(table) => {
+                let refusal = table.check().err();
+                refusal.map(|refusal| (refusal.number(), refusal.to_string()))
+            }
+        };
+        let run = run_on(&["check", "-"], &bytes);
+        let (number, message) = match refusal {
+            Some((number, words)) => {
+                let message = format!("dervisclo: standard input: refused with {words}\n");
+                (number, message)
+            }
+            None => (0, String::new()),
+        };
+        assert_eq!((run.status, run.errors), (Some(number as i32), message));
+        seen[number as usize] += 1;
+    }
+    for number in [0, 3, 4, 6, 7, 20, 21] {
+        assert!(seen[number] > 0, "{seen:?}");
+    }
 }
