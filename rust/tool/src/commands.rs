@@ -30,7 +30,8 @@ fn print(options: &Options) -> Result<(), Problem> {
 
 fn check(options: &Options) -> Result<(), Problem> {
     let (name, table) = table(options)?;
-    check_document(&options.style(), &table.words, &table.pool)
+    table
+        .check()
         .map_err(|refusal| Problem::refused(&name, refusal.number(), refusal))?;
     let (nodes, pool) = (table.nodes(), table.pool.len());
     let line = format!("{name}: accepted, {nodes} nodes, a pool of {pool} bytes\n");

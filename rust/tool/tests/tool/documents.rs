@@ -139,6 +139,17 @@ fn the_longest_file_is_read_whole() {
     assert_eq!(printed.output, table.print(&Style::one_line()).unwrap());
     let path = file("longest.dvt", &bytes);
     assert_eq!(run(&["check", &path]).status, Some(0));
+    // and with one byte more it is not
+    let longer = [&bytes[..], b"a"].concat();
+    let path = file("longer.dvt", &longer);
+    for refused in [run(&["check", &path]), run_on(&["check", "-"], &longer)] {
+        assert_eq!(refused.status, Some(21));
+        assert!(
+            refused
+                .errors
+                .ends_with("229392 bytes are told, 229393 are found\n")
+        );
+    }
 }
 
 #[test]
