@@ -57,39 +57,59 @@ const SELECTIONS: [&[u32]; 3] = [&[FIELD], &[INLINE_FRAGMENT], &[FIELD, INLINE_F
 /// The last nodes of a chain of values, the deepest that it may hold.
 const LEAVES: [u32; 3] = [STRING, INT, OBJECT_VALUE];
 
-/// A path of kinds from a definition down, each with what else its kind must have.
-fn along(path: &[u32]) -> OwnTable {
-    let mut words = vec![[DOCUMENT, 0, 0, 0, 0]];
-    below(path, &mut words);
-    words[0][4] = words.len() as u32;
+/// A path of kinds from a definition down. Each of them comes after so many of its like, and has what else its kind must
+/// have.
+fn along(path: &[u32], after: usize) -> OwnTable {
+    let mut words = Vec::new();
+    below(&[&[DOCUMENT], path].concat(), after, &mut words);
     OwnTable {
         words: words.concat(),
         pool: POOL.to_vec(),
     }
 }
 
-fn below(path: &[u32], words: &mut Vec<[u32; 5]>) {
+fn below(path: &[u32], after: usize, words: &mut Vec<[u32; 5]>) {
     let Some((&kind, rest)) = path.split_first() else {
         return;
     };
     let at = words.len();
     words.push(head(kind));
-    let next = rest.first().copied().unwrap_or(DOCUMENT);
-    let is_type = matches!(next, NAMED_TYPE | LIST_TYPE);
-    let is_selection = matches!(next, FIELD | FRAGMENT_SPREAD | INLINE_FRAGMENT);
+    let next = rest.first().copied();
+    let is_type = matches!(next, Some(NAMED_TYPE | LIST_TYPE));
+    let is_selection = matches!(next, Some(FIELD | FRAGMENT_SPREAD | INLINE_FRAGMENT));
     match kind {
-        FRAGMENT => below(&[NAMED_TYPE], words),
-        VARIABLE_DEFINITION | INPUT_VALUE_DEFINITION if !is_type => below(&[NAMED_TYPE], words),
+        FRAGMENT => below(&[NAMED_TYPE], 0, words),
+        VARIABLE_DEFINITION | INPUT_VALUE_DEFINITION if !is_type => below(&[NAMED_TYPE], 0, words),
         _ => {}
     }
-    below(rest, words);
+    for _ in 0..after {
+        below(like(kind, next), 0, words);
+    }
+    below(rest, after, words);
     match kind {
-        OPERATION | INLINE_FRAGMENT | FRAGMENT if !is_selection => below(&[FIELD], words),
-        FIELD_DEFINITION if !is_type => below(&[NAMED_TYPE], words),
-        DIRECTIVE_DEFINITION => below(&[LOCATION], words),
+        OPERATION | INLINE_FRAGMENT | FRAGMENT if !is_selection => below(&[FIELD], 0, words),
+        FIELD_DEFINITION if !is_type => below(&[NAMED_TYPE], 0, words),
+        DIRECTIVE_DEFINITION => below(&[LOCATION], 0, words),
         _ => {}
     }
     words[at][4] = words.len() as u32;
+}
+
+/// A small node that may stand before this child of this kind, if any may.
+fn like(kind: u32, child: Option<u32>) -> &'static [u32] {
+    match (kind, child) {
+        (DOCUMENT, _) => &[SCALAR],
+        (LIST, Some(_)) => &[INT],
+        (_, Some(OBJECT_FIELD)) => &[OBJECT_FIELD, INT],
+        (_, Some(ARGUMENT)) => &[ARGUMENT, INT],
+        (_, Some(DIRECTIVE)) => &[DIRECTIVE],
+        (_, Some(FIELD | FRAGMENT_SPREAD | INLINE_FRAGMENT)) => &[FIELD],
+        (_, Some(VARIABLE_DEFINITION)) => &[VARIABLE_DEFINITION],
+        (_, Some(INPUT_VALUE_DEFINITION)) => &[INPUT_VALUE_DEFINITION],
+        (_, Some(FIELD_DEFINITION)) => &[FIELD_DEFINITION],
+        (_, Some(ENUM_VALUE_DEFINITION)) => &[ENUM_VALUE_DEFINITION],
+        _ => &[],
+    }
 }
 
 /// A node with its text, the end left out.
@@ -98,46 +118,44 @@ fn head(kind: u32) -> [u32; 5] {
     match kind {
         STRING => [kind, 0, STRING_START, string_length, 0],
         INT => [kind, 0, 0, 1, 0],
-        LIST | OBJECT_VALUE | LOCATION | LIST_TYPE => [kind, 0, 0, 0, 0],
+        DOCUMENT | LIST | OBJECT_VALUE | LOCATION | LIST_TYPE => [kind, 0, 0, 0, 0],
         _ => [kind, 0, NAME_START, 1, 0],
     }
 }
 
-/// The path to the start, then the cycle as often as fits, then the leaf at depth 64.
-fn deepest(to: &[u32], cycle: &[u32], leaf: &[u32]) -> OwnTable {
+/// The path to the start, then the cycle as often as fits, then the leaf at depth 64 or nearly: a cycle is not left half
+/// way.
+fn deepest(to: &[u32], cycle: &[u32], leaf: &[u32]) -> Vec<u32> {
     let left = MOST_DEPTH - to.len() - leaf.len();
-    // a cycle is not left half way
-    let times = left / cycle.len();
-    let path = [to, &cycle.repeat(times), leaf].concat();
-    along(&path)
+    [to, &cycle.repeat(left / cycle.len()), leaf].concat()
 }
 
-/// Every way to nest, from every place where it may begin, down to depth 64 or nearly.
-pub fn nested() -> Vec<OwnTable> {
-    let mut tables = Vec::new();
+/// Every way to nest, from every place where it may begin.
+fn paths() -> Vec<Vec<u32>> {
+    let mut paths = Vec::new();
     for to in TO_VALUES {
         for cycle in VALUES {
-            for leaf in LEAVES {
-                tables.push(deepest(to, cycle, &[leaf]));
-            }
+            paths.extend(LEAVES.map(|leaf| deepest(to, cycle, &[leaf])));
         }
     }
-    for to in TO_TYPES {
-        tables.push(deepest(to, &[LIST_TYPE], &[NAMED_TYPE]));
-    }
+    paths.extend(TO_TYPES.map(|to| deepest(to, &[LIST_TYPE], &[NAMED_TYPE])));
     for definition in [OPERATION, FRAGMENT] {
         for cycle in SELECTIONS {
-            tables.push(deepest(&[definition], cycle, &[FIELD]));
+            paths.push(deepest(&[definition], cycle, &[FIELD]));
             let spread = [FRAGMENT_SPREAD, DIRECTIVE, ARGUMENT, LIST, STRING];
-            tables.push(deepest(&[definition], cycle, &spread));
+            paths.push(deepest(&[definition], cycle, &spread));
             // half of the depth in selections, half in values
-            for values in VALUES {
-                let half = [&[definition][..], &cycle.repeat(20), &[FIELD, ARGUMENT]].concat();
-                tables.push(deepest(&half, values, &[STRING]));
-            }
+            let half = [&[definition][..], &cycle.repeat(20), &[FIELD, ARGUMENT]].concat();
+            paths.extend(VALUES.map(|values| deepest(&half, values, &[STRING])));
         }
     }
-    tables
+    paths
+}
+
+/// A table for each of them, first children all along, and second and third ones.
+pub fn nested() -> Vec<OwnTable> {
+    let of_path = |path: Vec<u32>| (0..3).map(move |after| along(&path, after));
+    paths().into_iter().flat_map(of_path).collect()
 }
 
 /// And generated ones, those of as many nodes as may be or one more, and a registry's.

@@ -6,13 +6,18 @@ use compare::wanted::LONGEST_VALUE;
 use oracle::plain_print;
 use oracle::rng::Rng;
 
-/// How many texts in a million are about as long as may be.
+/// How many values in a million are about as long as may be, and how many are too long.
 const LONG: usize = 3_000;
+const TOO_LONG: usize = 4_000;
 
 /// UTF-8 and not, mostly short.
 pub fn value(rng: &mut Rng) -> Vec<u8> {
-    if rng.below(1_000_000) < LONG {
+    let any = rng.below(1_000_000);
+    if any < LONG {
         return long(rng);
+    }
+    if any < LONG + TOO_LONG {
+        return bytes::exactly(rng, LONGEST_VALUE + 1);
     }
     match rng.below(10) {
         0 => bytes::random(rng, 80),
