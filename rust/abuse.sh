@@ -23,17 +23,23 @@ inputs=10000000
 watched=20000 # under valgrind
 quick=
 while [ $# -gt 0 ]; do
-    case $1 in
-    --quick) quick=--quick inputs=200000 ;;
-    --seed) seed=${2-} && shift ;;
-    --inputs) inputs=${2-} && shift ;;
-    *) fail "unknown argument $1" ;;
+    argument=$1
+    shift
+    case $argument in
+    --quick)
+        quick=--quick
+        inputs=200000
+        continue
+        ;;
+    --seed) seed=${1-} ;;
+    --inputs) inputs=${1-} ;;
+    *) fail "unknown argument $argument" ;;
+    esac
+    case ${1-} in
+    '' | *[!0-9]*) fail "$argument takes a number" ;;
     esac
     shift
 done
-case $seed$inputs in
-'' | *[!0-9]*) fail "--seed and --inputs take a number" ;;
-esac
 
 passed=0
 failed=0
