@@ -1,5 +1,6 @@
 /*
- * Prints a description of two lines, first to an output that is too short, and reads it back. Then prints a document.
+ * Prints a description of two lines, first to an output that is too short, and reads it back. Then checks and prints a
+ * document. All five functions of the header are used.
  *
  *     cc -std=c99 -I include rust/c_example/main.c target/staticlib/libgateway.a -o c_example
  */
@@ -72,6 +73,18 @@ static int reads_back(const uint8_t *text, uint64_t text_len)
     return length == strlen(value) && memcmp(room, value, (size_t)length) == 0;
 }
 
+/* Checks the table, its texts in this pool, alone and for printing at this level: the answers, and the node. */
+static void checks_document(const char *pool, uint64_t level)
+{
+    size_t words_len = sizeof words / sizeof words[0];
+    uint64_t place;
+    uint32_t answer = dervisclo_check_table(words, words_len, (const uint8_t *)pool, strlen(pool), &place);
+    printf("the table: %u, node %u\n", (unsigned)answer, (unsigned)place);
+    answer = dervisclo_check_document(1, (const uint8_t *)prefix, strlen(prefix), level, words, words_len,
+                                      (const uint8_t *)pool, strlen(pool), &place);
+    printf("at level %u: %u, node %u\n", (unsigned)level, (unsigned)answer, (unsigned)place);
+}
+
 /* Prints the table under the default settings, its texts in this pool. */
 static int prints_document(const char *pool)
 {
@@ -107,7 +120,12 @@ int main(void)
     printf("without its last byte: %u\n", (unsigned)answer);
     free(text);
 
+    /* a document's level goes up to 64 */
+    checks_document("ab", 64);
+    checks_document("ab", 65);
+
     /* no name begins with a digit */
+    checks_document("a1", 0);
     same = same && prints_document("ab") && !prints_document("a1");
     return same ? EXIT_SUCCESS : EXIT_FAILURE;
 }

@@ -2,7 +2,7 @@
 //!
 //!     cargo run --offline -p dervisclo --example one_document
 
-use dervisclo::{print_document_to_vec, DocumentRefusal, Style};
+use dervisclo::{DocumentRefusal, Style, print_document_to_vec};
 use std::process::ExitCode;
 
 /// Kind, variant, text start, text length, and the number of the first node after the subtree.
@@ -43,7 +43,7 @@ fn main() -> ExitCode {
     match printed {
         Ok(()) => ExitCode::SUCCESS,
         Err(refusal) => {
-            eprintln!("refused with {}: {refusal}", refusal.number());
+            eprintln!("refused with {refusal}");
             ExitCode::FAILURE
         }
     }

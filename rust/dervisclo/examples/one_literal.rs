@@ -2,7 +2,7 @@
 //!
 //!     cargo run --offline -p dervisclo --example one_literal -- 'say "hi"'
 
-use dervisclo::{print_literal, read_literal, Kind, Refusal, Style};
+use dervisclo::{Kind, Refusal, Style, print_literal, read_literal};
 use std::io::Write;
 use std::process::ExitCode;
 
@@ -15,7 +15,7 @@ fn main() -> ExitCode {
     match print_and_read(value.as_bytes()) {
         Ok(()) => ExitCode::SUCCESS,
         Err(refusal) => {
-            eprintln!("refused with {}: {refusal}", refusal.number());
+            eprintln!("refused with {refusal}");
             ExitCode::FAILURE
         }
     }

@@ -1,10 +1,15 @@
 //! The printing of a document.
 
-use crate::{c, Style, TableRefusal};
+use crate::{Style, TableRefusal, c, refusals, room};
 use std::error::Error;
 use std::fmt;
 
 /// Why no document was printed. [`DocumentRefusal::Room`] is given only if no other refusal is.
+///
+/// ```
+/// let refusal = dervisclo::DocumentRefusal::Room { needed: 12 };
+/// assert!(refusal.to_string().ends_with("to be written; 12 bytes are needed"));
+/// ```
 #[derive(Clone, Copy, Debug, Eq, PartialEq)]
 pub enum DocumentRefusal {
     /// 1 to 7: what [`check_document`](crate::check_document) says of this style and table.
@@ -18,6 +23,10 @@ pub enum DocumentRefusal {
 
 impl DocumentRefusal {
     /// Document 01's number of this refusal, as the C interface answers it.
+    ///
+    /// ```
+    /// assert_eq!(dervisclo::DocumentRefusal::Room { needed: 12 }.number(), 8);
+    /// ```
     pub fn number(self) -> u32 {
         match self {
             Self::Table(refusal) => refusal.number(),
@@ -26,6 +35,13 @@ impl DocumentRefusal {
     }
 
     /// The node that the refusal names, or 0 where it names none.
+    ///
+    /// ```
+    /// use dervisclo::{DocumentRefusal, TableRefusal};
+    ///
+    /// let refusal = DocumentRefusal::Table(TableRefusal::Text { place: 2 });
+    /// assert_eq!(refusal.place(), 2);
+    /// ```
     pub fn place(self) -> usize {
         match self {
             Self::Table(refusal) => refusal.place(),
@@ -44,10 +60,10 @@ impl fmt::Display for DocumentRefusal {
     fn fmt(&self, f: &mut fmt::Formatter<'_>) -> fmt::Result {
         match self {
             Self::Table(refusal) => refusal.fmt(f),
-            Self::Room { needed } => write!(
-                f,
-                "room: output shorter than the text to be written, which needs {needed} bytes"
-            ),
+            Self::Room { needed } => {
+                refusals::write(f, 8, refusals::NO_NODE)?;
+                write!(f, "; {needed} bytes are needed")
+            }
         }
     }
 }
@@ -108,18 +124,27 @@ pub fn print_document(
     }
 }
 
-/// [`print_document`] into a vector of just the length that is needed.
+/// [`print_document`] into a vector of just the length that is needed. Where so long a vector cannot be had,
+/// [`DocumentRefusal::Room`] is the answer.
 ///
 /// A table's texts may name one range of the pool again and again, so a text can be far longer than its table.
+///
+/// ```
+/// use dervisclo::{print_document_to_vec, Style};
+///
+/// let words = [0, 0, 0, 0, 3, 1, 0, 0, 0, 3, 29, 0, 0, 1, 3];
+/// let text = print_document_to_vec(&words, b"a", &Style::default());
+/// assert_eq!(text, Ok(b"{\n  a\n}\n".to_vec()));
+/// ```
 pub fn print_document_to_vec(
     words: &[u32],
     pool: &[u8],
     style: &Style<'_>,
 ) -> Result<Vec<u8>, DocumentRefusal> {
-    let mut out = Vec::new();
-    match print_document(words, pool, style, &mut out) {
-        Err(DocumentRefusal::Room { needed }) => out.resize(needed, 0),
-        answer => return answer.map(|_| out),
-    }
+    let needed = match print_document(words, pool, style, &mut []) {
+        Err(DocumentRefusal::Room { needed }) => needed,
+        answer => return answer.map(|_| Vec::new()),
+    };
+    let mut out = room(needed).ok_or(DocumentRefusal::Room { needed })?;
     print_document(words, pool, style, &mut out).map(|_| out)
 }

@@ -35,8 +35,24 @@
 //! # Ok::<(), Refusal>(())
 //! ```
 //!
-//! A document is given as a node table. [`print_document`] prints it, [`print_document_to_vec`] into a vector of its
-//! own:
+//! A document is given as a node table. [`Table::document`] makes one, and [`builder`] says how:
+//!
+//! ```
+//! use dervisclo::{DocumentRefusal, Style, Table};
+//!
+//! let table = Table::document(|document| {
+//!     document.enum_type("Role", |role| {
+//!         role.description("Who may do what.");
+//!         role.enum_values(["ADMIN", "MEMBER"]);
+//!     });
+//! });
+//! let text = table.print(&Style::one_line())?;
+//! assert_eq!(text, br#""Who may do what." enum Role { ADMIN MEMBER }"#);
+//! # Ok::<(), DocumentRefusal>(())
+//! ```
+//!
+//! [`print_document`] prints a table that is given as words and pool, into memory that is lent;
+//! [`print_document_to_vec`] into a vector of its own:
 //!
 //! ```
 //! use dervisclo::{print_document_to_vec, DocumentRefusal, Style};
@@ -48,16 +64,24 @@
 //! # Ok::<(), DocumentRefusal>(())
 //! ```
 //!
-//! [`check_table`] says whether document 01 accepts a node table, and if not, why and at which node.
+//! [`check_table`] says whether document 01 accepts a node table, and if not, why and at which node. [`Table::to_file`]
+//! and [`Table::from_file`] keep a table in a file.
 
 #![warn(missing_docs)]
 
+pub mod builder;
 pub mod c;
+mod check;
 mod document;
+pub mod file;
+mod kinds;
+pub mod refusals;
 mod table;
 
-pub use document::{print_document, print_document_to_vec, DocumentRefusal};
-pub use table::{check_document, check_table, TableRefusal};
+pub use check::{TableRefusal, check_document, check_table};
+pub use document::{DocumentRefusal, print_document, print_document_to_vec};
+pub use kinds::{Location, NodeKind, OperationType};
+pub use table::Table;
 
 use std::error::Error;
 use std::fmt;
@@ -66,6 +90,14 @@ use std::fmt;
 const _: () = assert!(size_of::<usize>() == size_of::<u64>());
 
 /// Where the value stands in a document. A description takes block form where it can.
+///
+/// ```
+/// use dervisclo::{Kind, Style, print_literal_to_vec};
+///
+/// let print = |kind| print_literal_to_vec(b"abc", kind, &Style::default());
+/// assert_eq!(print(Kind::Description), Ok(br#""""abc""""#.to_vec()));
+/// assert_eq!(print(Kind::String), Ok(br#""abc""#.to_vec()));
+/// ```
 #[derive(Clone, Copy, Debug, Eq, PartialEq)]
 pub enum Kind {
     /// The description of a definition.
@@ -75,6 +107,14 @@ pub enum Kind {
 }
 
 /// How a literal is written.
+///
+/// ```
+/// use dervisclo::{Form, read_literal_to_vec};
+///
+/// let (form, value) = read_literal_to_vec(br#""""abc""""#)?;
+/// assert_eq!((form, &value[..]), (Form::Block, &b"abc"[..]));
+/// # Ok::<(), dervisclo::Refusal>(())
+/// ```
 #[derive(Clone, Copy, Debug, Eq, PartialEq)]
 pub enum Form {
     /// `"abc"`, one quote at each end.
@@ -84,6 +124,14 @@ pub enum Form {
 }
 
 /// How to print. The default is line breaks on, a prefix of two spaces and level 0.
+///
+/// ```
+/// use dervisclo::{Style, Table};
+///
+/// let table = Table::document(|document| document.query("", |query| query.fields(["a"])));
+/// let style = Style { prefix: b"\t", level: 1, ..Style::default() };
+/// assert_eq!(table.print(&style), Ok(b"{\n\t\ta\n\t}\n".to_vec()));
+/// ```
 #[derive(Clone, Copy, Debug, Eq, PartialEq)]
 pub struct Style<'a> {
     /// Line breaks on. Off, a document is one line and every literal is quoted; prefix and level are checked all the
@@ -105,7 +153,31 @@ impl Default for Style<'_> {
     }
 }
 
+impl Style<'_> {
+    /// The default with line breaks off.
+    ///
+    /// ```
+    /// use dervisclo::Style;
+    ///
+    /// assert_eq!(Style::one_line(), Style { breaks: false, ..Style::default() });
+    /// ```
+    pub fn one_line() -> Self {
+        Self {
+            breaks: false,
+            ..Self::default()
+        }
+    }
+}
+
 /// Why no literal was printed or read. The lowest number that applies is given, and [`Refusal::Room`] only if no other is.
+///
+/// ```
+/// use dervisclo::{Kind, Refusal, Style, print_literal};
+///
+/// let refusal = print_literal(b"\xff", Kind::String, &Style::default(), &mut []).unwrap_err();
+/// assert_eq!(refusal, Refusal::Text);
+/// assert!(refusal.to_string().starts_with("7 (text) at place 0: "));
+/// ```
 #[derive(Clone, Copy, Debug, Eq, PartialEq)]
 pub enum Refusal {
     /// 1: the prefix is over 16 bytes or has a byte other than space and tab, or the level is over 128.
@@ -139,6 +211,15 @@ impl Refusal {
         }
     }
 
+    /// 0: one literal has no nodes.
+    ///
+    /// ```
+    /// assert_eq!(dervisclo::Refusal::Literal.place(), 0);
+    /// ```
+    pub fn place(self) -> usize {
+        0
+    }
+
     fn from_answer(number: u32, length: u64) -> Self {
         match number {
             1 => Self::Settings,
@@ -155,19 +236,10 @@ impl Refusal {
 
 impl fmt::Display for Refusal {
     fn fmt(&self, f: &mut fmt::Formatter<'_>) -> fmt::Result {
+        refusals::write(f, self.number(), refusals::NO_NODE)?;
         match self {
-            Self::Settings => f.write_str(
-                "settings: prefix over 16 bytes or with a byte other than space and tab, or level over 128",
-            ),
-            Self::Size => f.write_str("size: literal value over 65,536 bytes"),
-            Self::Text => f.write_str("text: literal's value not UTF-8"),
-            Self::Room { needed } => write!(
-                f,
-                "room: output shorter than the text, or value, to be written, which needs {needed} bytes"
-            ),
-            Self::Literal => f.write_str(
-                "literal: the input to be read is not UTF-8 or not exactly one StringValue",
-            ),
+            Self::Room { needed } => write!(f, "; {needed} bytes are needed"),
+            _ => Ok(()),
         }
     }
 }
@@ -178,6 +250,14 @@ impl Error for Refusal {}
 ///
 /// The value is any UTF-8 of up to 65,536 bytes. The first line is not indented: the caller has written what stands
 /// before the literal. A refusal leaves `out` as it was; bytes past the length stay.
+///
+/// ```
+/// use dervisclo::{Kind, Style, print_literal};
+///
+/// let mut out = [b'.'; 8];
+/// assert_eq!(print_literal(b"abc", Kind::String, &Style::default(), &mut out), Ok(5));
+/// assert_eq!(&out, br#""abc"..."#);
+/// ```
 pub fn print_literal(
     value: &[u8],
     kind: Kind,
@@ -211,6 +291,15 @@ pub fn print_literal(
 ///
 /// The text may be of any length and have any content. It has nothing before or after the literal. A refusal leaves
 /// `out` as it was; bytes past the length stay. A value is never longer than its literal.
+///
+/// ```
+/// use dervisclo::{Form, Refusal, read_literal};
+///
+/// let mut out = [b'.'; 4];
+/// assert_eq!(read_literal(br#""abc""#, &mut out), Ok((Form::Quoted, 3)));
+/// assert_eq!(&out, b"abc.");
+/// assert_eq!(read_literal(b"abc", &mut out), Err(Refusal::Literal));
+/// ```
 pub fn read_literal(text: &[u8], out: &mut [u8]) -> Result<(Form, usize), Refusal> {
     let mut length = 0;
     let mut form = 0;
@@ -233,26 +322,50 @@ pub fn read_literal(text: &[u8], out: &mut [u8]) -> Result<(Form, usize), Refusa
     }
 }
 
-/// [`print_literal`] into a vector of just the length that is needed.
+/// [`print_literal`] into a vector of just the length that is needed. Where so long a vector cannot be had,
+/// [`Refusal::Room`] is the answer.
+///
+/// ```
+/// use dervisclo::{print_literal_to_vec, Kind, Style};
+///
+/// let text = print_literal_to_vec(b"abc", Kind::Description, &Style::default());
+/// assert_eq!(text, Ok(br#""""abc""""#.to_vec()));
+/// ```
 pub fn print_literal_to_vec(
     value: &[u8],
     kind: Kind,
     style: &Style<'_>,
 ) -> Result<Vec<u8>, Refusal> {
-    let mut out = Vec::new();
-    match print_literal(value, kind, style, &mut out) {
-        Err(Refusal::Room { needed }) => out.resize(needed, 0),
-        answer => return answer.map(|_| out),
-    }
+    let needed = match print_literal(value, kind, style, &mut []) {
+        Err(Refusal::Room { needed }) => needed,
+        answer => return answer.map(|_| Vec::new()),
+    };
+    let mut out = room(needed).ok_or(Refusal::Room { needed })?;
     print_literal(value, kind, style, &mut out).map(|_| out)
 }
 
-/// [`read_literal`] into a vector of just the length that is needed.
+/// [`read_literal`] into a vector of just the length that is needed. Where so long a vector cannot be had,
+/// [`Refusal::Room`] is the answer.
+///
+/// ```
+/// use dervisclo::{read_literal_to_vec, Form};
+///
+/// let read = read_literal_to_vec(br#""\u0061bc""#);
+/// assert_eq!(read, Ok((Form::Quoted, b"abc".to_vec())));
+/// ```
 pub fn read_literal_to_vec(text: &[u8]) -> Result<(Form, Vec<u8>), Refusal> {
-    let mut out = Vec::new();
-    match read_literal(text, &mut out) {
-        Err(Refusal::Room { needed }) => out.resize(needed, 0),
-        answer => return answer.map(|(form, _)| (form, out)),
-    }
+    let needed = match read_literal(text, &mut []) {
+        Err(Refusal::Room { needed }) => needed,
+        answer => return answer.map(|(form, _)| (form, Vec::new())),
+    };
+    let mut out = room(needed).ok_or(Refusal::Room { needed })?;
     read_literal(text, &mut out).map(|(form, _)| (form, out))
+}
+
+/// An output of this length, if it can be had.
+fn room(length: usize) -> Option<Vec<u8>> {
+    let mut out = Vec::new();
+    out.try_reserve_exact(length).ok()?;
+    out.resize(length, 0);
+    Some(out)
 }

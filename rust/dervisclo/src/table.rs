@@ -1,189 +1,118 @@
-//! The check of a node table.
+//! A node table of one's own.
 
-use crate::{c, Style};
-use std::error::Error;
-use std::fmt;
+use crate::builder::Builder;
+use crate::file::{self, FileRefusal};
+use crate::{DocumentRefusal, Style, TableRefusal, check_table, print_document_to_vec};
 
-/// Why a table is not accepted. The lowest number that applies is given, and for 3 to 7 the smallest node with that
-/// fault.
-#[derive(Clone, Copy, Debug, Eq, PartialEq)]
-pub enum TableRefusal {
-    /// 1: a prefix over 16 bytes or with a byte other than space and tab, or a level over 64. [`check_table`], which is
-    /// given no style, never answers it.
-    Settings,
-    /// 2: the words are not a multiple of five, there is no node or over 8,192, or the pool is over 65,536 bytes.
-    Size,
-    /// 3: unknown kind or variant; text outside the pool; length 0 with start not 0; text where none is allowed; end
-    /// not above its own number or past the table; node 0 not a Document ending the table; kind 0 elsewhere.
-    Node {
-        /// The node.
-        place: usize,
-    },
-    /// 4: a later node inside this subtree ends after it.
-    Nesting {
-        /// The subtree's first node.
-        place: usize,
-    },
-    /// 5: this node is deeper than 64. A Document's depth is 0.
-    Depth {
-        /// The node.
-        place: usize,
-    },
-    /// 6: the children are not as listed for the kind, or a Variable stands below a kind 3 to 17 or 21.
-    Children {
-        /// The parent, or the Variable.
-        place: usize,
-    },
-    /// 7: the text is not a name, a number or UTF-8 as the kind asks.
-    Text {
-        /// The node.
-        place: usize,
-    },
-}
+/// Words of one node: kind, variant, text start, text length, end.
+pub(crate) const WORDS: usize = 5;
 
-impl TableRefusal {
-    /// Document 01's number of this refusal, as the C interface answers it.
-    pub fn number(self) -> u32 {
-        match self {
-            Self::Settings => 1,
-            Self::Size => 2,
-            Self::Node { .. } => 3,
-            Self::Nesting { .. } => 4,
-            Self::Depth { .. } => 5,
-            Self::Children { .. } => 6,
-            Self::Text { .. } => 7,
-        }
-    }
+/// Document 01's limits.
+pub(crate) const MOST_NODES: usize = 8_192;
+pub(crate) const MOST_POOL: usize = 65_536;
 
-    /// The node that the refusal names; 0 for [`TableRefusal::Settings`] and [`TableRefusal::Size`], which name none.
-    pub fn place(self) -> usize {
-        match self {
-            Self::Settings | Self::Size => 0,
-            Self::Node { place }
-            | Self::Nesting { place }
-            | Self::Depth { place }
-            | Self::Children { place }
-            | Self::Text { place } => place,
-        }
-    }
-
-    pub(crate) fn from_answer(number: u32, place: usize) -> Self {
-        match number {
-            1 => Self::Settings,
-            2 => Self::Size,
-            3 => Self::Node { place },
-            4 => Self::Nesting { place },
-            5 => Self::Depth { place },
-            6 => Self::Children { place },
-            7 => Self::Text { place },
-            _ => unreachable!("the library has no answer {number}"),
-        }
-    }
-}
-
-impl fmt::Display for TableRefusal {
-    fn fmt(&self, f: &mut fmt::Formatter<'_>) -> fmt::Result {
-        match self {
-            Self::Settings => f.write_str(
-                "settings: prefix over 16 bytes or with a byte other than space and tab, or level over 64",
-            ),
-            Self::Size => f.write_str(
-                "size: words not a multiple of 5, no node, over 8,192 nodes, or pool over 65,536 bytes",
-            ),
-            Self::Node { place } => write!(
-                f,
-                "node {place}: unknown kind or variant; text outside the pool; length 0 with start not 0; text where \
-                 none is allowed; end not above its own number or past the table; node 0 not a Document ending the \
-                 table; or kind 0 elsewhere"
-            ),
-            Self::Nesting { place } => write!(
-                f,
-                "nesting, node {place}: a later node inside this subtree ends after it"
-            ),
-            Self::Depth { place } => write!(f, "depth, node {place}: deeper than 64"),
-            Self::Children { place } => write!(
-                f,
-                "children, node {place}: children not as listed, or a Variable below a kind 3 to 17 or 21"
-            ),
-            Self::Text { place } => write!(
-                f,
-                "text, node {place}: not a name, a number or UTF-8 as the kind asks"
-            ),
-        }
-    }
-}
-
-impl Error for TableRefusal {}
-
-/// Does document 01 accept this node table?
-///
-/// The words are five a node, in preorder: kind, variant, text start, text length and end, which is the number of the
-/// first node after the subtree. Texts lie in the pool; bytes that no node names never matter.
+/// The words and the pool of a node table.
 ///
 /// ```
-/// use dervisclo::{check_table, TableRefusal};
+/// use dervisclo::{Style, Table};
 ///
-/// // The query `{ a }`: a Document, an Operation with no name, and a Field whose name is the pool's first byte.
-/// let mut words = [0, 0, 0, 0, 3, 1, 0, 0, 0, 3, 29, 0, 0, 1, 3];
-/// assert_eq!(check_table(&words, b"a"), Ok(()));
-///
-/// // No name begins with a digit.
-/// assert_eq!(check_table(&words, b"1"), Err(TableRefusal::Text { place: 2 }));
-///
-/// // The Operation ends before its Field, and has no selection.
-/// words[9] = 2;
-/// let refusal = check_table(&words, b"a").unwrap_err();
-/// assert_eq!((refusal.number(), refusal.place()), (6, 0));
+/// let table = Table::document(|document| {
+///     document.object_type("User", |user| {
+///         user.description("Who signs in.");
+///         user.field_definition("id", |field| field.ty("ID!"));
+///     });
+/// });
+/// let text = table.print(&Style::default())?;
+/// assert_eq!(text, b"\"\"\"Who signs in.\"\"\"\ntype User {\n  id: ID!\n}\n");
+/// # Ok::<(), dervisclo::DocumentRefusal>(())
 /// ```
-pub fn check_table(words: &[u32], pool: &[u8]) -> Result<(), TableRefusal> {
-    let mut place = 0;
-    // SAFETY: each pointer comes with the length of the slice behind it, and what is lent mutably overlaps nothing.
-    let number = unsafe {
-        c::dervisclo_check_table(
-            words.as_ptr(),
-            words.len(),
-            pool.as_ptr(),
-            pool.len(),
-            &mut place,
-        )
-    };
-    told(number, place)
+#[derive(Clone, Debug, Default, Eq, PartialEq)]
+pub struct Table {
+    /// Five words a node, in preorder: kind, variant, text start, text length, end.
+    pub words: Vec<u32>,
+    /// The bytes that the texts lie in.
+    pub pool: Vec<u8>,
 }
 
-fn told(number: u32, place: u64) -> Result<(), TableRefusal> {
-    match number {
-        0 => Ok(()),
-        _ => Err(TableRefusal::from_answer(number, place as usize)),
+impl Table {
+    /// A document with the definitions that `below` adds.
+    ///
+    /// Starts, lengths and ends are counted here. Whether each node has the children and the text that its kind asks
+    /// for is for [`Table::check`] to say. A table that outgrows document 01's limits is kept whole and refused with 2,
+    /// [`TableRefusal::Size`]; a count past 32 bits, which only such a table can have, stays at the greatest `u32`.
+    ///
+    /// ```
+    /// use dervisclo::Table;
+    ///
+    /// let table = Table::document(|document| document.query("", |query| query.fields(["a"])));
+    /// assert_eq!(table.words, [0, 0, 0, 0, 3, 1, 0, 0, 0, 3, 29, 0, 0, 1, 3]);
+    /// assert_eq!(table.pool, b"a");
+    /// ```
+    pub fn document(below: impl FnOnce(&mut Builder)) -> Self {
+        Builder::document(below)
     }
-}
 
-/// Does document 01 accept this node table for printing in this style? The style is looked at first, and its level is at
-/// most 64 here.
-///
-/// ```
-/// use dervisclo::{check_document, Style, TableRefusal};
-///
-/// let words = [0, 0, 0, 0, 3, 1, 0, 0, 0, 3, 29, 0, 0, 1, 3];
-/// let style = Style { level: 64, ..Style::default() };
-/// assert_eq!(check_document(&style, &words, b"a"), Ok(()));
-/// let style = Style { level: 65, ..Style::default() };
-/// assert_eq!(check_document(&style, &words, b"-"), Err(TableRefusal::Settings));
-/// ```
-pub fn check_document(style: &Style, words: &[u32], pool: &[u8]) -> Result<(), TableRefusal> {
-    let mut place = 0;
-    // SAFETY: each pointer comes with the length of the slice behind it, and what is lent mutably overlaps nothing.
-    let number = unsafe {
-        c::dervisclo_check_document(
-            u32::from(style.breaks),
-            style.prefix.as_ptr(),
-            style.prefix.len(),
-            style.level,
-            words.as_ptr(),
-            words.len(),
-            pool.as_ptr(),
-            pool.len(),
-            &mut place,
-        )
-    };
-    told(number, place)
+    /// How many nodes there are.
+    ///
+    /// ```
+    /// assert_eq!(dervisclo::Table::document(|_| ()).nodes(), 1);
+    /// ```
+    pub fn nodes(&self) -> usize {
+        self.words.len() / WORDS
+    }
+
+    /// [`check_table`] of this table.
+    ///
+    /// ```
+    /// use dervisclo::{Table, TableRefusal};
+    ///
+    /// // An operation selects something.
+    /// let table = Table::document(|document| document.query("Nothing", |_| ()));
+    /// assert_eq!(table.check(), Err(TableRefusal::Children { place: 1 }));
+    /// ```
+    pub fn check(&self) -> Result<(), TableRefusal> {
+        check_table(&self.words, &self.pool)
+    }
+
+    /// [`print_document_to_vec`] of this table.
+    ///
+    /// ```
+    /// use dervisclo::{Style, Table};
+    ///
+    /// let table = Table::document(|document| document.scalar_type("Date", |_| ()));
+    /// assert_eq!(table.print(&Style::default()), Ok(b"scalar Date\n".to_vec()));
+    /// ```
+    pub fn print(&self, style: &Style<'_>) -> Result<Vec<u8>, DocumentRefusal> {
+        print_document_to_vec(&self.words, &self.pool, style)
+    }
+
+    /// The bytes of a table file, as `docs/TABLE-FILE.md` has it. Any table can be kept in one, accepted or not; one of
+    /// over 2^32 - 1 words or pool bytes is refused with 2, [`TableRefusal::Size`].
+    ///
+    /// ```
+    /// use dervisclo::Table;
+    ///
+    /// let table = Table::document(|document| document.scalar_type("Date", |_| ()));
+    /// let file = table.to_file()?;
+    /// assert!(file.starts_with(b"DVTABLE1") && file.ends_with(b"Date"));
+    /// # Ok::<(), dervisclo::TableRefusal>(())
+    /// ```
+    pub fn to_file(&self) -> Result<Vec<u8>, TableRefusal> {
+        file::write(self)
+    }
+
+    /// The table that the bytes of a table file hold. It is not checked yet.
+    ///
+    /// ```
+    /// use dervisclo::{file::FileRefusal, Table};
+    ///
+    /// let table = Table::document(|document| document.scalar_type("Date", |_| ()));
+    /// let file = table.to_file()?;
+    /// assert_eq!(Table::from_file(&file), Ok(table));
+    /// assert_eq!(Table::from_file(b"scalar Date"), Err(FileRefusal::Magic));
+    /// # Ok::<(), dervisclo::TableRefusal>(())
+    /// ```
+    pub fn from_file(file: &[u8]) -> Result<Self, FileRefusal> {
+        file::read(file)
+    }
 }

@@ -1,6 +1,6 @@
 //! The printing of a document: document 01's known outputs, the room, and what a refusal leaves.
 
-use dervisclo::{print_document, print_document_to_vec, DocumentRefusal, Style, TableRefusal};
+use dervisclo::{DocumentRefusal, Style, TableRefusal, print_document, print_document_to_vec};
 
 /// The query of a.
 const QUERY: [u32; 15] = [0, 0, 0, 0, 3, 1, 0, 0, 0, 3, 29, 0, 0, 1, 3];
@@ -175,8 +175,9 @@ fn refusals_have_numbers_places_and_words() {
     let room = print_document(&QUERY, b"a", &Style::default(), &mut []).unwrap_err();
     assert_eq!((room.number(), room.place()), (8, 0));
     let error: &dyn std::error::Error = &room;
-    assert!(error.to_string().ends_with("needs 8 bytes"), "{error}");
+    let words = "8 (room) at place 0: output shorter than the text, or value, to be written; 8 bytes are needed";
+    assert_eq!(error.to_string(), words);
     let text = print_document(&QUERY, b"-", &Style::default(), &mut []).unwrap_err();
     assert_eq!((text.number(), text.place()), (7, 2));
-    assert!(text.to_string().starts_with("text, node 2: "), "{text}");
+    assert!(text.to_string().starts_with("7 (text) at node 2: name"));
 }

@@ -1,8 +1,8 @@
 //! The safe functions: what they answer, and what they leave in the output.
 
 use dervisclo::{
-    print_literal, print_literal_to_vec, read_literal, read_literal_to_vec, Form, Kind, Refusal,
-    Style,
+    Form, Kind, Refusal, Style, print_literal, print_literal_to_vec, read_literal,
+    read_literal_to_vec,
 };
 
 const LONGEST: usize = 65_536;
@@ -168,14 +168,18 @@ fn empty_value_needs_no_room() {
 #[test]
 fn refusals_have_numbers_and_words() {
     let rows = [
-        (Refusal::Settings, 1, "settings: "),
-        (Refusal::Size, 2, "size: "),
-        (Refusal::Text, 7, "text: "),
-        (Refusal::Room { needed: 17 }, 8, "room: "),
-        (Refusal::Literal, 9, "literal: "),
+        (Refusal::Settings, 1, "1 (settings) at place 0: prefix"),
+        (Refusal::Size, 2, "2 (size) at place 0: words"),
+        (Refusal::Text, 7, "7 (text) at place 0: name"),
+        (
+            Refusal::Room { needed: 17 },
+            8,
+            "8 (room) at place 0: output",
+        ),
+        (Refusal::Literal, 9, "9 (literal) at place 0: the input"),
     ];
     for (refusal, number, words) in rows {
-        assert_eq!(refusal.number(), number);
+        assert_eq!((refusal.number(), refusal.place()), (number, 0));
         let error: &dyn std::error::Error = &refusal;
         assert!(error.to_string().starts_with(words), "{error}");
     }

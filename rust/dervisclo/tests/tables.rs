@@ -1,6 +1,6 @@
 //! The check of a node table: each refusal, and the node that it names.
 
-use dervisclo::{check_document, check_table, Style, TableRefusal};
+use dervisclo::{Style, TableRefusal, check_document, check_table};
 
 /// The query of a.
 const QUERY: [u32; 15] = [0, 0, 0, 0, 3, 1, 0, 0, 0, 3, 29, 0, 0, 1, 3];
@@ -60,9 +60,14 @@ fn refused() {
 fn refusals_have_numbers_places_and_words() {
     let refusal = check_table(&nested(67), b"a").unwrap_err();
     assert_eq!((refusal.number(), refusal.place()), (5, 65));
-    assert_eq!(refusal.to_string(), "depth, node 65: deeper than 64");
+    assert_eq!(
+        refusal.to_string(),
+        "5 (depth) at node 65: Document is depth 0; this node is deeper than 64"
+    );
     let refusal = check_table(&[], b"a").unwrap_err();
     assert_eq!((refusal.number(), refusal.place()), (2, 0));
+    let words = refusal.to_string();
+    assert!(words.starts_with("2 (size) at place 0: words"), "{words}");
 }
 
 #[test]

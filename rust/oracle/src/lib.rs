@@ -8,6 +8,7 @@ pub mod rng;
 pub mod run;
 mod settings;
 pub mod table;
+pub mod table_file;
 
 #[cfg_attr(sources_absent, path = "absent_printer.rs")]
 pub mod crate_printer;

@@ -6,6 +6,7 @@ use std::process::ExitCode;
 
 const USAGE: &str = "usage: oracle print <breaks> <level> <prefix> <words> <pool>
        oracle display <breaks> <level> <prefix> <words> <pool>
+       oracle print-file <table file>
        oracle literal <d|s> <breaks> <level> <prefix> <value>
        oracle known
        oracle compare [seed] [count]
@@ -29,6 +30,7 @@ fn main() -> ExitCode {
         ["definitions", vectors, out] => return write_definitions(vectors, out),
         ["print", a, b, c, d, e] => return show(|| print::document([a, b, c, d, e], false)),
         ["display", a, b, c, d, e] => return show(|| print::document([a, b, c, d, e], true)),
+        ["print-file", path] => return show(|| print::file(path)),
         ["literal", a, b, c, d, e] => return show(|| print::literal([a, b, c, d, e])),
         _ => {}
     }

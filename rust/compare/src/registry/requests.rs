@@ -8,7 +8,7 @@ const LARGEST: usize = 600;
 /// Selections stand no deeper within one another.
 const DEEPEST: usize = 5;
 
-/// Operations and fragments of so many nodes, [`LARGEST`] and more. The last is a fragment of what is left.
+/// Operations and fragments of so many nodes, `LARGEST` and more. The last is a fragment of what is left.
 pub fn requests(seed: u64, nodes: usize) -> OwnTable {
     Maker::document(seed, |maker| {
         let mut number = 0;

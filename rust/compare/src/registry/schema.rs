@@ -43,7 +43,7 @@ const VALUES: [&str; 16] = [
 /// Most nodes of one definition.
 const LARGEST: usize = 300;
 
-/// A schema of so many nodes, [`LARGEST`] and more. The last definition is an enum of what is left.
+/// A schema of so many nodes, `LARGEST` and more. The last definition is an enum of what is left.
 pub fn schema(seed: u64, nodes: usize) -> OwnTable {
     Maker::document(seed, |maker| {
         maker.roots();

@@ -1,9 +1,11 @@
-//! One document or one literal, printed by the crate from the fields of a vector line.
+//! One document or one literal, printed by the crate: from the fields of a vector line, or from a table file.
 
 use super::rows::{bytes, words};
 use crate::crate_printer;
 use crate::plain_check::is_valid;
 use crate::settings::Settings;
+use crate::table_file;
+use std::fs;
 
 fn settings(breaks: &str, level: &str, prefix: &str) -> Result<Settings, String> {
     let prefix = bytes(prefix).and_then(|prefix| String::from_utf8(prefix).ok());
@@ -24,13 +26,28 @@ pub fn document(fields: [&str; 5], display: bool) -> Result<String, String> {
     let settings = settings(fields[0], fields[1], fields[2])?;
     let words = words(fields[3]).ok_or("the words are not numbers apart by commas")?;
     let pool = bytes(fields[4]).ok_or("the pool is not hex")?;
-    if let Err(refusal) = is_valid(&words, &pool) {
-        return Err(format!("document 01 refuses the table: {refusal:?}"));
-    }
+    checked(&words, &pool)?;
     Ok(match display {
         true => crate_printer::display_document(&words, &pool, &settings),
         false => crate_printer::print_document(&words, &pool, &settings),
     })
+}
+
+/// The document of a table file under the default settings.
+pub fn file(path: &str) -> Result<String, String> {
+    let file = fs::read(path).map_err(|error| format!("{path}: {error}"))?;
+    let table = table_file::read(&file).ok_or(format!("{path}: not a table file"))?;
+    checked(&table.words, &table.pool)?;
+    let settings = Settings::default();
+    Ok(crate_printer::print_document(
+        &table.words,
+        &table.pool,
+        &settings,
+    ))
+}
+
+fn checked(words: &[u32], pool: &[u8]) -> Result<(), String> {
+    is_valid(words, pool).map_err(|refusal| format!("document 01 refuses the table: {refusal:?}"))
 }
 
 /// `<d|s> <breaks> <level> <prefix> <value>`, by `serialize_string_value`.

@@ -1,0 +1,7 @@
+//! The built tool, run.
+
+mod common;
+mod documents;
+mod literals;
+mod refusals;
+mod usage;
