@@ -1,20 +1,20 @@
 -- The ways of reading a table file, and words stored one by one.
 use mathlib.Core.Path.{_≡_, refl, sym, ap, _∙_}
-use mathlib.Core.Bool.{Bool, true, false, not}
+use mathlib.Core.Bool.{Bool, true, false}
 use mathlib.Core.List.{List, [], _∷_, _++_}
 use Prim.Native.Nat.{ℕ, zero, suc, _+_, _-_, _*_, _≤_, _<_}
 use native.Mathlib.Numerals.{add-one}
 use native.Mathlib.Omega.{arith}
-use lib.Dec.{eqb, ltb}
+use lib.Dec.{eqb}
 use lib.ListN.{length, take, drop, getD, set, length-take}
 use lib.Seq.{sets, sets-eq}
 use borrow.Author.Tests.{eq-eqb, ne-eqb, lt-ltb, le-ltb}
-use Rattle.meaning.specs.Ascii.{if_then_else_}
 use Rattle.meaning.specs.Text.{same}
 use Rattle.base.specs.Bools.{and-right, clash}
 use Rattle.table_file.specs.declared.Head.{Head}
 use Rattle.table_file.specs.declared.Head.the-variants.{Told, NotATable as NoHead, CutShort}
 use Rattle.table_file.specs.declared.TableFile.the-variants.{Table, NotATable, WrongLength, Room}
+use Rattle.table_file.specs.Within.{numbers-length}
 use Rattle.table_file.specs.File.{magic, numberAt, numbersAt, isTableFile, wordsTold, lengthTold, headOf, tableUnder, tableOf}
 
 pub number-of-bytes : (s : List ℕ) (i a b c d : ℕ) → a ≡ getD s i 0 → b ≡ getD s (i + 1) 0 → c ≡ getD s (i + 2) 0 → d ≡ getD s (i + 3) 0
@@ -75,20 +75,6 @@ module _ (s d : List ℕ) {h : Head} (e : h ≡ headOf s) where
   unfolding tableOf tableUnder
   a-table n l k u r q = rw (← e, k, eq-eqb (length s) l u, le-ltb (length d) n r, q)
 
--- a file that tells of n words is long enough for them
-pub words-within : (s : List ℕ) {h : Head} (n l : ℕ) → h ≡ headOf s → h ≡ Told n l → 16 + 4 * n ≤ l
-unfolding headOf lengthTold
-words-within s n l e k = go (isTableFile s) (ltb (length s) 16) (sym e ∙ k)
-  where
-    go : (a b : Bool) → (if not a then NoHead else if b then CutShort else Told (wordsTold s) (16 + 4 * wordsTold s + numberAt s 12)) ≡ Told n l
-        → 16 + 4 * n ≤ l
-    go false b q = let z : _≡_ {A = ℕ} 0 1 = cc in absurd (omega arith)
-    go true true q = let z : _≡_ {A = ℕ} 0 1 = cc in absurd (omega arith)
-    go true false q =
-        let x : wordsTold s ≡ n = cc in
-        let y : 16 + 4 * wordsTold s + numberAt s 12 ≡ l = cc in
-        omega arith
-
 -- numbers stored one by one from the front
 pub store-number : (d s : List ℕ) (i n v : ℕ) → i < n → v ≡ numberAt s (16 + 4 * i)
     → sets (set d i v) (i + 1) (numbersAt (n - (i + 1)) s (16 + 4 * (i + 1))) ≡ sets d i (numbersAt (n - i) s (16 + 4 * i))
@@ -101,11 +87,6 @@ store-number d s i n v h e =
 pub store-none : (d s : List ℕ) (i n : ℕ) → n ≤ i → sets d i (numbersAt (n - i) s (16 + 4 * i)) ≡ d
 unfolding numbersAt
 store-none d s i n h = let z : n - i ≡ 0 = omega arith in rw z
-
-numbers-length : (n : ℕ) (s : List ℕ) (i : ℕ) → length (numbersAt n s i) ≡ n
-unfolding numbersAt
-numbers-length zero s i = refl
-numbers-length (suc n) s i = ap suc (numbers-length n s (i + 4))
 
 pub store-all : (d s : List ℕ) (n : ℕ) → n ≤ length d → sets d 0 (numbersAt n s 16) ≡ numbersAt n s 16 ++ drop n d
 store-all d s n h =
