@@ -6,12 +6,18 @@ use lib.Dec.{ltb}
 use lib.ListN.{length, take, drop}
 use Rattle.meaning.specs.Ascii.{if_then_else_}
 use Rattle.meaning.specs.Settings.{defaultSettings}
+use Rattle.meaning.specs.Answers.{Answer, answer}
 use Rattle.meaning.specs.Entries.{Outcome, refusing, printedDocument}
 use Rattle.table_file.specs.declared.Head.{Head}
 use Rattle.table_file.specs.declared.Head.the-variants.{Told, NotATable as NoHead, CutShort}
 use Rattle.table_file.specs.declared.TableFile.{TableFile}
 use Rattle.table_file.specs.declared.TableFile.the-variants.{Table, NotATable, WrongLength, Room}
 use Rattle.table_file.specs.File.{headOf, tableOf}
+use Rattle.archive.specs.declared.Archived.{Archived}
+
+-- number 0 is success, as document 01's answers have it
+abbrev pub archivedAnswer : Archived → Answer
+archivedAnswer a = answer (a .number) (a .place) (a .length)
 
 -- no longer file has a table that is accepted: 8,192 nodes of five words, and a pool of 65,536 bytes
 abbrev pub longestFile : ℕ

@@ -2,8 +2,7 @@
 ghost use mathlib.Core.Path.{_≡_};
 ghost use lib.ListN.{take};
 ghost use Rattle.meaning.specs.Answers.{answer, refusalAnswer, printedAnswer};
-ghost use Rattle.table_file.specs.File.{headOf, tableOf};
-ghost use Rattle.archive.specs.Archive.{tooLong, archivedTable, archived};
+ghost use Rattle.archive.specs.Archive.{archivedAnswer, tooLong, archived};
 use meaning::NodeNumber;
 use meaning::Offset;
 use meaning::Printed;
@@ -22,7 +21,7 @@ pub struct Archived {
 }
 
 fn refused(number: u64) -> Archived
-    ensures { λ r. ⌜ answer (r .number) (r .place) (r .length) ≡ answer number 0 0 ⌝ }
+    ensures { λ r. ⌜ archivedAnswer r ≡ answer number 0 0 ⌝ }
 {
     Archived {
         number: number,
@@ -32,7 +31,7 @@ fn refused(number: u64) -> Archived
 }
 
 fn at(number: u64, node: NodeNumber) -> Archived
-    ensures { λ r. ⌜ answer (r .number) (r .place) (r .length) ≡ answer number (node .0) 0 ⌝ }
+    ensures { λ r. ⌜ archivedAnswer r ≡ answer number (node .0) 0 ⌝ }
 {
     Archived {
         number: number,
@@ -42,7 +41,7 @@ fn at(number: u64, node: NodeNumber) -> Archived
 }
 
 fn with_length(number: u64, n: Offset) -> Archived
-    ensures { λ r. ⌜ answer (r .number) (r .place) (r .length) ≡ answer number 0 (n .0) ⌝ }
+    ensures { λ r. ⌜ archivedAnswer r ≡ answer number 0 (n .0) ⌝ }
 {
     Archived {
         number: number,
@@ -52,7 +51,7 @@ fn with_length(number: u64, n: Offset) -> Archived
 }
 
 fn refusal(why: Refusal) -> Archived
-    ensures { λ r. ⌜ answer (r .number) (r .place) (r .length) ≡ refusalAnswer why ⌝ }
+    ensures { λ r. ⌜ archivedAnswer r ≡ refusalAnswer why ⌝ }
 {
     match why {
         Refusal::Settings => refused(1),
@@ -68,7 +67,7 @@ fn refusal(why: Refusal) -> Archived
 }
 
 fn printed(p: Printed) -> Archived
-    ensures { λ r. ⌜ answer (r .number) (r .place) (r .length) ≡ printedAnswer p ⌝ }
+    ensures { λ r. ⌜ archivedAnswer r ≡ printedAnswer p ⌝ }
 {
     match p {
         Printed::Written(n) => with_length(0, n),
@@ -77,7 +76,7 @@ fn printed(p: Printed) -> Archived
 }
 
 fn too_long(h: Head) -> Archived
-    ensures { λ r. ⌜ answer (r .number) (r .place) (r .length) ≡ answer (tooLong h) 0 0 ⌝ }
+    ensures { λ r. ⌜ archivedAnswer r ≡ answer (tooLong h) 0 0 ⌝ }
 {
     match h {
         Head::NotATable => refused(20),
@@ -93,7 +92,7 @@ fn too_long(h: Head) -> Archived
 
 // Reads the table into `words` and prints it into `out`. A refusal changes no byte of `out`.
 pub fn print_archive(file: &[u8], words: &mut [u32], out: &mut [u8]) -> Archived
-    ensures { λ r. ⌜ ((answer (r .number) (r .place) (r .length), now (out .exit)), now (words .exit)) ≡ archived (now (file .entry)) (now (words .entry)) (now (out .entry)) ⌝ }
+    ensures { λ r. ⌜ ((archivedAnswer r, now (out .exit)), now (words .exit)) ≡ archived (now (file .entry)) (now (words .entry)) (now (out .entry)) ⌝ }
 {
     if LONGEST_FILE < file.len() {
         return too_long(table_file::read_head(file));
