@@ -8,7 +8,7 @@ use lib.Seq.{take-all}
 use borrow.Author.Tests.{lt-ltb, le-ltb}
 use Rattle.meaning.specs.Settings.{defaultSettings}
 use Rattle.meaning.specs.Answers.{Answer, answer}
-use Rattle.meaning.specs.Entries.{refusing, printedDocument}
+use Rattle.meaning.specs.Entries.{printedDocument}
 use Rattle.meaning.specs.declared.Offset.{Offset}
 use Rattle.table_file.specs.declared.Head.{Head}
 use Rattle.table_file.specs.declared.Head.the-variants.{Told, NotATable as NoHead, CutShort}

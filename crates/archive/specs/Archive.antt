@@ -12,7 +12,7 @@ use Rattle.table_file.specs.declared.Head.{Head}
 use Rattle.table_file.specs.declared.Head.the-variants.{Told, NotATable as NoHead, CutShort}
 use Rattle.table_file.specs.declared.TableFile.{TableFile}
 use Rattle.table_file.specs.declared.TableFile.the-variants.{Table, NotATable, WrongLength, Room}
-use Rattle.table_file.specs.File.{headOf, tableOf}
+use Rattle.table_file.specs.File.{headOf, tableOf, fileNumber}
 use Rattle.archive.specs.declared.Archived.{Archived}
 
 -- number 0 is success, as document 01's answers have it
@@ -33,9 +33,9 @@ tooLong (Told words whole) = if ltb longestFile whole then 2 else 21
 unfoldable pub archivedTable : TableFile → List ℕ → List ℕ → List ℕ → Outcome
 unfolding printedDocument
 archivedTable (Table n pool) file words out = printedDocument defaultSettings (take n words) (drop (pool .0) file) out
-archivedTable NotATable file words out = refusing 20 0 out
-archivedTable WrongLength file words out = refusing 21 0 out
-archivedTable (Room n) file words out = refusing 2 0 out
+archivedTable NotATable file words out = refusing (fileNumber NotATable) 0 out
+archivedTable WrongLength file words out = refusing (fileNumber WrongLength) 0 out
+archivedTable (Room n) file words out = refusing (fileNumber (Room n)) 0 out
 
 -- the answer and every byte of the output, and every lent word
 unfoldable pub archived : List ℕ → List ℕ → List ℕ → Outcome × List ℕ

@@ -1,21 +1,17 @@
--- The ways of reading a table file, and words stored one by one.
-use mathlib.Core.Path.{_≡_, refl, sym, ap, _∙_}
+-- A number's four bytes, a file too short for its magic, and words stored one by one.
+use mathlib.Core.Path.{_≡_, refl, ap, _∙_}
 use mathlib.Core.Bool.{Bool, true, false}
 use mathlib.Core.List.{List, [], _∷_, _++_}
-use Prim.Native.Nat.{ℕ, zero, suc, _+_, _-_, _*_, _≤_, _<_}
+use Prim.Native.Nat.{ℕ, suc, _+_, _-_, _*_, _≤_, _<_}
 use native.Mathlib.Numerals.{add-one}
 use native.Mathlib.Omega.{arith}
 use lib.Dec.{eqb}
 use lib.ListN.{length, take, drop, getD, set, length-take}
 use lib.Seq.{sets, sets-eq}
-use borrow.Author.Tests.{eq-eqb, ne-eqb, lt-ltb, le-ltb}
 use Rattle.meaning.specs.Text.{same}
 use Rattle.base.specs.Bools.{and-right, clash}
-use Rattle.table_file.specs.declared.Head.{Head}
-use Rattle.table_file.specs.declared.Head.the-variants.{Told, NotATable as NoHead, CutShort}
-use Rattle.table_file.specs.declared.TableFile.the-variants.{Table, NotATable, WrongLength, Room}
 use Rattle.table_file.specs.Within.{numbers-length}
-use Rattle.table_file.specs.File.{magic, numberAt, numbersAt, isTableFile, wordsTold, lengthTold, headOf, tableUnder, tableOf}
+use Rattle.table_file.specs.File.{magic, numberAt, numbersAt, isTableFile}
 
 pub number-of-bytes : (s : List ℕ) (i a b c d : ℕ) → a ≡ getD s i 0 → b ≡ getD s (i + 1) 0 → c ≡ getD s (i + 2) 0 → d ≡ getD s (i + 3) 0
     → a + 256 * b + 65536 * (c + 256 * d) ≡ numberAt s i
@@ -37,43 +33,6 @@ too-short s h = go (same (take 8 s) magic) refl
     go : (t : Bool) → same (take 8 s) magic ≡ t → false ≡ t
     go false e = refl
     go true e = let l : length (take 8 s) ≡ 8 = same-lengths (take 8 s) magic e in absurd (omega (arith, length-take 8 s))
-
-module _ (s : List ℕ) where
-  pub head-none : isTableFile s ≡ false → headOf s ≡ NoHead
-  unfolding headOf
-  head-none e = rw e
-
-  pub head-short : isTableFile s ≡ true → length s < 16 → headOf s ≡ CutShort
-  unfolding headOf
-  head-short e h = rw (e, lt-ltb (length s) 16 h)
-
-  pub head-told : (w p : ℕ) → isTableFile s ≡ true → 16 ≤ length s → w ≡ numberAt s 8 → p ≡ numberAt s 12
-      → headOf s ≡ Told w (16 + 4 * w + p)
-  unfolding headOf wordsTold lengthTold
-  head-told w p e h ew ep = rw (e, le-ltb (length s) 16 h, ew, ep)
-
--- what follows from the head
-module _ (s d : List ℕ) {h : Head} (e : h ≡ headOf s) where
-  pub no-table : h ≡ NoHead → tableOf s d ≡ (NotATable, d)
-  unfolding tableOf tableUnder
-  no-table k = rw (← e, k)
-
-  pub no-lengths : h ≡ CutShort → tableOf s d ≡ (WrongLength, d)
-  unfolding tableOf tableUnder
-  no-lengths k = rw (← e, k)
-
-  pub other-length : (n l : ℕ) → h ≡ Told n l → (length s ≡ l → ⊥) → tableOf s d ≡ (WrongLength, d)
-  unfolding tableOf tableUnder
-  other-length n l k u = rw (← e, k, ne-eqb (length s) l u)
-
-  pub no-room : (n l : ℕ) → h ≡ Told n l → length s ≡ l → length d < n → tableOf s d ≡ (Room n, d)
-  unfolding tableOf tableUnder
-  no-room n l k u r = rw (← e, k, eq-eqb (length s) l u, lt-ltb (length d) n r)
-
-  pub a-table : (n l : ℕ) {t : List ℕ} → h ≡ Told n l → length s ≡ l → n ≤ length d → t ≡ numbersAt n s 16 ++ drop n d
-      → tableOf s d ≡ (Table n (record { 0 = 16 + 4 * n }), t)
-  unfolding tableOf tableUnder
-  a-table n l k u r q = rw (← e, k, eq-eqb (length s) l u, le-ltb (length d) n r, q)
 
 -- numbers stored one by one from the front
 pub store-number : (d s : List ℕ) (i n v : ℕ) → i < n → v ≡ numberAt s (16 + 4 * i)

@@ -2,7 +2,7 @@
 -- nothing after it. A number and a word have four bytes, the lowest first.
 use mathlib.Core.Bool.{Bool, not}
 use mathlib.Core.List.{List, [], _∷_, _++_}
-use Prim.Native.Nat.{ℕ, zero, suc, _+_, _*_, _^_}
+use Prim.Native.Nat.{ℕ, zero, suc, _+_, _*_, _/_, _%_, _^_}
 use lib.Dec.{eqb, ltb}
 use lib.ListN.{length, take, drop, getD}
 use Rattle.meaning.specs.Ascii.{if_then_else_, ascii}
@@ -14,6 +14,20 @@ use Rattle.table_file.specs.declared.TableFile.the-variants.{Table, NotA
 
 abbrev pub magic : List ℕ
 magic = ascii "DVTABLE1"
+
+-- a number of 32 bits as four bytes
+unfoldable pub numberBytes : ℕ → List ℕ
+numberBytes n = n % 256 ∷ n / 256 % 256 ∷ n / 256 / 256 % 256 ∷ n / 256 / 256 / 256 % 256 ∷ []
+
+unfoldable pub wordsBytes : List ℕ → List ℕ
+wordsBytes [] = []
+wordsBytes (w ∷ words) = numberBytes w ++ wordsBytes words
+
+-- the file of a table
+unfoldable pub tableFile : List ℕ → List ℕ → List ℕ
+tableFile words pool = magic ++ (numberBytes (length words) ++ (numberBytes (length pool) ++ (wordsBytes words ++ pool)))
+
+-- Reading, of any bytes: `ReadsBack.antt` has it that the file of a table is read as that table.
 
 -- the number of the four bytes at a place
 unfoldable pub numberAt : List ℕ → ℕ → ℕ
@@ -61,7 +75,7 @@ unfoldable pub tableOf : List ℕ → List ℕ → TableFile × List ℕ
 unfolding headOf tableUnder
 tableOf s d = tableUnder (headOf s) s d
 
--- document 01's numbers go from 1 to 16; a file's refusals have numbers of their own
+-- A file's refusals have numbers past document 01's. Words that find no room are a table too large, 2, for who lends as many as 8,192 nodes have.
 abbrev pub fileNumber : TableFile → ℕ
 fileNumber (Table words pool) = 0
 fileNumber NotATable = 20

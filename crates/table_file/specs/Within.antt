@@ -12,7 +12,7 @@ use Rattle.meaning.specs.declared.Offset.{Offset}
 use Rattle.table_file.specs.declared.Head.{Head}
 use Rattle.table_file.specs.declared.Head.the-variants.{Told, NotATable as NoHead, CutShort}
 use Rattle.table_file.specs.declared.TableFile.{TableFile}
-use Rattle.table_file.specs.declared.TableFile.the-variants.{Table, NotATable, WrongLength, Room}
+use Rattle.table_file.specs.declared.TableFile.the-variants.{Table, WrongLength, Room}
 use Rattle.table_file.specs.File.{numberAt, numbersAt, isTableFile, wordsTold, lengthTold, headOf, tableUnder, tableOf}
 
 pub numbers-length : (n : ℕ) (s : List ℕ) (i : ℕ) → length (numbersAt n s i) ≡ n

@@ -1,5 +1,5 @@
 -- The head decides, and of one that tells a length, whether that is too long.
-use mathlib.Core.Path.{sym, ap, _∙_}
+use mathlib.Core.Path.{_∙_}
 use borrow.Author.Needs.{needs}
 use Rattle.archive.proofs.Archives.{head-none, head-short, told-too-long, told-other}
 use Rattle.archive.proofs.too_long.Statement.{statement}

@@ -2,7 +2,7 @@
 use mathlib.Core.Path.{sym, _∙_}
 use borrow.Author.Tests.{not-true, not-false}
 use borrow.Author.Needs.{needs}
-use Rattle.table_file.proofs.Files.{head-none, head-short, head-told}
+use Rattle.table_file.specs.Ways.{head-none, head-short, head-told}
 use Rattle.table_file.proofs.read_head.Statement.{statement}
 use Rattle.table_file.proofs.read_head.Tie as tie
 

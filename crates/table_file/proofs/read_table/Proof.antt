@@ -3,7 +3,7 @@ use mathlib.Core.Path.{sym}
 use native.Mathlib.Omega.{arith}
 use borrow.Author.Needs.{needs}
 use Rattle.table_file.specs.Within.{words-within}
-use Rattle.table_file.proofs.Files.{no-table, no-lengths, other-length, no-room, a-table}
+use Rattle.table_file.specs.Ways.{no-table, no-lengths, other-length, no-room, a-table}
 use Rattle.table_file.proofs.read_table.Statement.{statement}
 use Rattle.table_file.proofs.read_table.Tie as tie
 
