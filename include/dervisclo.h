@@ -16,6 +16,9 @@
  * length is 0 may be null); `length`, `form` and `place` point to numbers and are not null; what may be written
  * overlaps nothing else that is passed; no slice is over PTRDIFF_MAX bytes. Nothing is asked of what the bytes and
  * words are.
+ *
+ * Nothing is allocated, and no state is kept between calls. Of the stack the printing of a document takes at most 144 KiB,
+ * the checks 80 KiB, a literal 4 KiB: more than was measured (docs/ABUSE.md).
  */
 #ifndef DERVISCLO_H
 #define DERVISCLO_H

@@ -52,7 +52,7 @@ refusal-read-back (Room n) = refl
 refusal-read-back Literal = refl
 
 -- a refusal's number is not 0
-refused-is-not-0 : (r : Refusal) → eqb (refusalAnswer r .number) 0 ≡ false
+pub refused-is-not-0 : (r : Refusal) → eqb (refusalAnswer r .number) 0 ≡ false
 refused-is-not-0 Settings = refl
 refused-is-not-0 Size = refl
 refused-is-not-0 (Node i) = refl

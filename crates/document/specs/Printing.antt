@@ -5,6 +5,7 @@ use mathlib.Core.Logic.{inl, inr}
 use mathlib.Core.List.{List, [], _++_}
 use Prim.Native.Nat.{ℕ, _+_, _^_, _-_, _≤_, _<_}
 use native.Mathlib.Omega.{arith}
+use lib.Dec.{eqb}
 use lib.ListN.{length, drop}
 use Rattle.base.specs.Bools.{clash}
 use Rattle.meaning.specs.Ascii.{if_then_else_}
@@ -13,11 +14,11 @@ use Rattle.meaning.specs.Table.{nodes, treeOf}
 use Rattle.meaning.specs.Refusals.{Verdict, accepted, refusal, verdict, hasFault, Accepted, Given, Right}
 use Rattle.meaning.specs.Layout.{documentText}
 use Rattle.meaning.specs.declared.Refusal.{Refusal}
-use Rattle.meaning.specs.declared.Refusal.the-variants.{Settings as SettingsRefused, Size, Node, Nesting, Depth, Children, Text, Room, Literal}
 use Rattle.meaning.specs.Answers.{Answer, answer, refusalAnswer}
 use Rattle.meaning.specs.Entries.{verdictAnswer, written, checkedTable, checkedDocument, printedOf, printedDocument}
 use Rattle.table_laws.specs.Exactly.{verdict-is-right}
 use Rattle.demand.specs.Three.{written-fits, written-short}
+use Rattle.demand.specs.OneAnswer.{refused-is-not-0}
 use Rattle.pen.specs.declared.Pen.{Pen}
 use Rattle.pen.specs.Put.{last}
 use Rattle.pen.specs.Wrote.{AtStart, Wrote, wrote-front, wrote-nowhere}
@@ -25,18 +26,6 @@ use Rattle.settings.specs.Faults.{small-settings}
 use Rattle.text_bound.specs.Document.{document-fits}
 use Rattle.quoted.specs.Classes.{classes}
 use Rattle.document.specs.Top.{Top}
-
--- a refusal has a number
-refuses : (r : Refusal) → refusalAnswer r .number ≡ 0 → ⊥
-refuses SettingsRefused e = absurd (omega (arith, e))
-refuses Size e = absurd (omega (arith, e))
-refuses (Node i) e = absurd (omega (arith, e))
-refuses (Nesting i) e = absurd (omega (arith, e))
-refuses (Depth i) e = absurd (omega (arith, e))
-refuses (Children i) e = absurd (omega (arith, e))
-refuses (Text i) e = absurd (omega (arith, e))
-refuses (Room n) e = absurd (omega (arith, e))
-refuses Literal e = absurd (omega (arith, e))
 
 module _ (s : Settings) (w p : List ℕ) where
   -- the check's refusal is the printer's
@@ -48,7 +37,7 @@ module _ (s : Settings) (w p : List ℕ) where
       text = documentText s (treeOf w p)
 
       of-verdict : (v : Verdict) → refusalAnswer r ≡ verdictAnswer v → (refusalAnswer r, out) ≡ printedOf v text out
-      of-verdict accepted e = absurd (refuses r (ap (λ (a : Answer). a .number) e))
+      of-verdict accepted e = clash (ap (λ (a : Answer). eqb (a .number) 0) e) (refused-is-not-0 r)
       of-verdict (refusal m i) e = ap (λ (a : Answer). (a, out)) e
 
       go : (f : Bool) (v : Verdict) → refusalAnswer r ≡ (if f then answer 1 0 0 else verdictAnswer v)

@@ -2,7 +2,7 @@
 use mathlib.Core.Path.{_≡_, refl, ap}
 use mathlib.Core.Bool.{Bool, true, false}
 use mathlib.Core.List.{List, [], _∷_, _++_}
-use Prim.Native.Nat.{ℕ, zero, suc, _+_, _≤_, _<_}
+use Prim.Native.Nat.{ℕ, _+_, _≤_, _<_}
 use native.Mathlib.Omega.{arith}
 use lib.ListN.{length, take, drop, length-take, length-drop}
 use Rattle.meaning.specs.Kind
@@ -62,13 +62,3 @@ unfolding textAt
 text-there w p i t z y =
     not-empty (take (lengthAt w i) (drop (startAt w i) p))
     (omega (arith, z, y, t .inPool, length-take (lengthAt w i) (drop (startAt w i) p), length-drop (startAt w i) p))
-
--- ---- the last arm of a match on the numbers from 0 on: the number is none of the first n
-
-abbrev pub NoneOf : ℕ → ℕ → Type 0
-NoneOf zero v = Unit {0}
-NoneOf (suc n) v = NoneOf n v × (v ≡ n → ⊥)
-
-pub past-all : (n v : ℕ) → NoneOf n v → n ≤ v
-past-all zero v r = omega arith
-past-all (suc n) v r = omega (arith, past-all n v (r .0), r .1)

@@ -1,6 +1,6 @@
 -- What a writer ensures, and its laws: writers one after the other write their texts one after the other, and a loop over
 -- writers writes the whole once nothing is left. A caller cites these and never looks at where the pen stands.
-use mathlib.Core.Path.{_≡_, refl, sym, subst, _∙_}
+use mathlib.Core.Path.{_≡_, refl, sym, ap, subst, _∙_}
 use mathlib.Core.List.{List, [], _++_}
 use Prim.Native.Nat.{ℕ, min, _+_, _≤_}
 use native.Mathlib.Omega.{arith}
@@ -73,6 +73,9 @@ left-step {d} {p} {whole} {d′} {q} {t} {u} {d″} {r} l v =
 pub left-done : {d : List ℕ} {p : Pen} {whole d′ : List ℕ} {q : Pen} → Left d p whole d′ q [] → Wrote d p whole d′ q
 left-done {d} {p} {whole} {d′} {q} l =
     record { place = omega (arith, l .place, l .here); text = sym (put-none d′ (q .at .0)) ∙ l .text; size = l .size }
+
+pub left-length : {d : List ℕ} {p : Pen} {whole d′ : List ℕ} {q : Pen} {todo : List ℕ} → Left d p whole d′ q todo → length d′ ≡ length d
+left-length {d} {p} {whole} {d′} {q} {todo} l = sym (length-put d′ (q .at .0) todo) ∙ ap length (l .text) ∙ length-put d (p .at .0) whole
 
 pub left-as : {d : List ℕ} {p : Pen} {whole d′ : List ℕ} {q : Pen} {t u : List ℕ} → Left d p whole d′ q t → t ≡ u
     → Left d p whole d′ q u

@@ -2,7 +2,7 @@
 use mathlib.Core.Path.{_≡_, refl, ap}
 use mathlib.Core.Bool.{true, _&&_}
 use mathlib.Core.List.{List, [], _∷_}
-use Prim.Native.Nat.{ℕ, zero, suc, _+_, _≤_, _<_}
+use Prim.Native.Nat.{ℕ, _≤_, _<_}
 use native.Mathlib.Omega.{arith}
 use lib.Dec.{leb}
 use lib.ListN.{length, getD, List·getD-eq-default}
@@ -13,19 +13,6 @@ use Rattle.meaning.specs.Table.{kindAt, variantAt, headAt, treeAt}
 use Rattle.meaning.specs.Children.{type, isIn}
 use Rattle.meaning.specs.Rules.{Part, rules, ruleOf}
 use Rattle.meaning.specs.Layout.{said, nodeText}
-
--- k is none of the n numbers from `low` on
-abbrev pub NoneFrom : ℕ → ℕ → ℕ → Type 0
-NoneFrom low zero k = Unit {0}
-NoneFrom low (suc n) k = NoneFrom low n k × (k ≡ low + n → ⊥)
-
-pub past-from : (low n k : ℕ) → low ≤ k → NoneFrom low n k → low + n ≤ k
-past-from low zero k h r = omega arith
-past-from low (suc n) k h r = omega (arith, past-from low n k h (r .0), r .1)
-
--- so it is the one after them, where it is no greater
-pub last-of : (low n k : ℕ) → low ≤ k → k ≤ low + n → NoneFrom low n k → k ≡ low + n
-last-of low n k h l r = omega (arith, past-from low n k h r)
 
 pub a-type : (w : List ℕ) (i : ℕ) {k : ℕ} → k ≡ kindAt w i → 33 ≤ k → k < 35 → isIn type (kindAt w i) (variantAt w i) ≡ true
 unfolding isIn

@@ -11,7 +11,6 @@ use Rattle.meaning.specs.Settings.{Settings, deeper, newLine, newLineOrSpace}
 use Rattle.meaning.specs.Children.{Class, starts, rest, run, past}
 use Rattle.meaning.specs.Layout.{Child, childIn, firstSaid, each, inBraces, inCommas}
 use Rattle.pen.specs.declared.Pen.{Pen}
-use Rattle.pen.specs.Put.{length-put}
 use Rattle.pen.specs.Wrote.{Wrote, Left, wrote-as, left-all, left-as, left-step, left-done, _⨾_, Ready}
 use Rattle.layout.specs.declared.Walk.{Walk}
 use Rattle.layout.specs.Kids.{kids, nextIs}
@@ -186,9 +185,6 @@ pub fewer-left : {w p : List ℕ} {e h : ℕ} (c : Class) {t u o : List ℕ} {at
     → length (kids w p (r .node .0) e) < length (kids w p (at .node .0) e)
 fewer-left {w} {p} {e} c {at = at} j z k y =
     rw (y .left, kept-kids j k) (shorter c (kids w p (at .node .0) e) (starts-next (rest-ranged j) c ∙ z))
-
-pub left-length : {d : List ℕ} {p : Pen} {u d′ : List ℕ} {q : Pen} {v : List ℕ} → Left d p u d′ q v → length d′ ≡ length d
-left-length {d} {p} {u} {d′} {q} {v} x = sym (length-put d′ (q .at .0) v) ∙ ap length (x .text) ∙ length-put d (p .at .0) u
 
 -- where the next child is not of the class, a walk over the class writes nothing
 pub nothing-said : {w p : List ℕ} {e h : ℕ} (c : Class) (before : List ℕ) (s : Settings) {d : List ℕ} {at : Walk} {d′ : List ℕ} {r : Walk}

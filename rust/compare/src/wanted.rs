@@ -34,7 +34,7 @@ fn is_prefix(prefix: &[u8]) -> bool {
     prefix.len() <= LONGEST_PREFIX && prefix.iter().all(is_blank)
 }
 
-fn settings(breaks: u32, prefix: &[u8], level: u64) -> Settings {
+pub fn settings(breaks: u32, prefix: &[u8], level: u64) -> Settings {
     Settings {
         breaks: breaks == 1,
         prefix: String::from_utf8_lossy(prefix).into(),
@@ -51,16 +51,22 @@ pub fn document(document: &Document<'_>) -> Result<Vec<u8>, Checked> {
         words,
         pool,
     } = *document;
-    if breaks > 1 || level > HIGHEST_DOCUMENT_LEVEL || !is_prefix(prefix) {
-        return Err(Checked {
-            number: 1,
-            place: 0,
-        });
-    }
-    match checked(words, pool) {
+    match checked_document(document) {
         Checked::ACCEPTED => Ok(text(words, pool, &settings(breaks, prefix, level))),
         refusal => Err(refusal),
     }
+}
+
+/// What the plain checker says, the settings looked at first.
+pub fn checked_document(document: &Document<'_>) -> Checked {
+    if document.breaks > 1 || document.level > HIGHEST_DOCUMENT_LEVEL || !is_prefix(document.prefix)
+    {
+        return Checked {
+            number: 1,
+            place: 0,
+        };
+    }
+    checked(document.words, document.pool)
 }
 
 /// What the plain checker says.

@@ -1,5 +1,5 @@
 -- `definitions::type_like` meets its contract: a function for each kind.
-use Rattle.serialize.specs.Kinds.{last-of}
+use Rattle.base.specs.Arms.{last-of}
 use Rattle.definitions.specs.Segments.{body, did-separated, parts-kept, parts-walked}
 use Rattle.serialize.specs.Parts.{Parts, jobs-kept, jobs-walked, did-one, did-spaced, did-braces}
 use Rattle.layout.specs.Did.{_⨾_, did-tokens, did-name, a-child, no-child, node-written}

@@ -1,8 +1,7 @@
 -- `document::later_definitions` meets its contract: once those that are left are written, all are.
 use Rattle.document.specs.Top.{Tops, tops-node, tops-job, tops-kind, tops-on, tops-less, one-later, none-later, later-turn}
-use Rattle.serialize.specs.Walks.{left-length}
 use Rattle.layout.specs.Written.{under}
-use Rattle.pen.specs.Wrote.{Left, left-all, left-as, left-step, left-done}
+use Rattle.pen.specs.Wrote.{Left, left-all, left-as, left-step, left-done, left-length}
 use Rattle.meaning.specs.Layout.{laterDefinitions}
 use Rattle.meaning.specs.Table.{forest}
 use native.Mathlib.Omega.{arith}

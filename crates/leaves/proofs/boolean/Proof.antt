@@ -1,4 +1,4 @@
-use Rattle.leaves.specs.Leaves.{past-all}
+use Rattle.base.specs.Arms.{past-from}
 -- `leaves::boolean` meets its contract: a word for each variant.
 use mathlib.Core.Path.{refl}
 use Rattle.layout.specs.Did.{did-chosen, did-none-chosen}
@@ -36,7 +36,7 @@ returns-2 : tie.Need-returns-2
 returns-2 c = λ p s e. did-chosen _ ((c .before .before .before .before .before .before .variant) .ensures .is) 1 ((c .before .before .before .before .before .match) .keys2) ((c .before .before .token2) .ensures)
 
 returns-3 : tie.Need-returns-3
-returns-3 c = λ p s e. did-none-chosen _ ((c .before .variant) .ensures .is) (past-all 2 _ ((c .match) .rest)) (kept-none (record { place = omega arith; size = omega arith }))
+returns-3 c = λ p s e. did-none-chosen _ ((c .before .variant) .ensures .is) (past-from 0 2 _ (omega arith) ((c .match) .rest)) (kept-none (record { place = omega arith; size = omega arith }))
 
 pub boolean-spec : {M : Type 1} → statement M
 boolean-spec =

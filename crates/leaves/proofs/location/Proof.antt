@@ -1,4 +1,4 @@
-use Rattle.leaves.specs.Leaves.{past-all}
+use Rattle.base.specs.Arms.{past-from}
 -- `leaves::location` meets its contract: a word for each variant.
 use mathlib.Core.Path.{refl}
 use Rattle.layout.specs.Did.{did-chosen, did-none-chosen}
@@ -240,7 +240,7 @@ returns-19 : tie.Need-returns-19
 returns-19 c = λ p s e. did-chosen _ ((c .before .before .before .before .before .before .variant) .ensures .is) 18 ((c .before .before .before .before .before .match) .keys19) ((c .before .before .token19) .ensures)
 
 returns-20 : tie.Need-returns-20
-returns-20 c = λ p s e. did-none-chosen _ ((c .before .variant) .ensures .is) (past-all 19 _ ((c .match) .rest)) (kept-none (record { place = omega arith; size = omega arith }))
+returns-20 c = λ p s e. did-none-chosen _ ((c .before .variant) .ensures .is) (past-from 0 19 _ (omega arith) ((c .match) .rest)) (kept-none (record { place = omega arith; size = omega arith }))
 
 pub location-spec : {M : Type 1} → statement M
 location-spec =

@@ -1,4 +1,4 @@
-use Rattle.leaves.specs.Leaves.{past-all}
+use Rattle.base.specs.Arms.{past-from}
 -- `leaves::operation_type` meets its contract: a word for each variant.
 use mathlib.Core.Path.{refl}
 use Rattle.layout.specs.Did.{did-chosen, did-none-chosen}
@@ -48,7 +48,7 @@ returns-3 : tie.Need-returns-3
 returns-3 c = λ p s e. did-chosen _ ((c .before .before .before .before .before .before .variant) .ensures .is) 2 ((c .before .before .before .before .before .match) .keys3) ((c .before .before .token3) .ensures)
 
 returns-4 : tie.Need-returns-4
-returns-4 c = λ p s e. did-none-chosen _ ((c .before .variant) .ensures .is) (past-all 3 _ ((c .match) .rest)) (kept-none (record { place = omega arith; size = omega arith }))
+returns-4 c = λ p s e. did-none-chosen _ ((c .before .variant) .ensures .is) (past-from 0 3 _ (omega arith) ((c .match) .rest)) (kept-none (record { place = omega arith; size = omega arith }))
 
 pub operation-type-spec : {M : Type 1} → statement M
 operation-type-spec =

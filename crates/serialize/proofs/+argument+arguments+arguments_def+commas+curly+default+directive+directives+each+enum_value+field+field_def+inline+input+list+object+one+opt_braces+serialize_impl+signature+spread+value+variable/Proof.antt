@@ -1,7 +1,8 @@
 -- The printer of the nodes below definitions meets its contracts. Each function does the parts of its rule one after the other; the remaining
 -- depth falls from a node to its children, and within one depth the functions are ranked by who calls whom.
-use Rattle.serialize.specs.Kinds.{past-from, last-of, a-type, no-definition, past-all, no-kind}
-use Rattle.serialize.specs.Walks.{Run, run-all, run-turn, run-over, commas-some, commas-none, braces-some, braces-none, fewer-left, left-length, nothing-said}
+use Rattle.base.specs.Arms.{past-from, last-of}
+use Rattle.serialize.specs.Kinds.{a-type, no-definition, past-all, no-kind}
+use Rattle.serialize.specs.Walks.{Run, run-all, run-turn, run-over, commas-some, commas-none, braces-some, braces-none, fewer-left, nothing-said}
 use Rattle.serialize.specs.Parts.{parts-of, jobs-kept, jobs-walked, one-done, jobs-deeper, jobs-single, jobs-lines, did-one, did-spaced, did-braces, did-commas, did-single-line, did-lines}
 use Rattle.types.specs.TypeJob.{type-job}
 use Rattle.layout.specs.Child.{no-one}
@@ -10,7 +11,7 @@ use Rattle.layout.specs.Jobs.{rest-within, rest-inside, rest-ranged, node-in-ta
 use Rattle.layout.specs.Written.{under, gapText, kept-none}
 use Rattle.layout.specs.Kids.{kids}
 use Rattle.layout.specs.Classes.{meant}
-use Rattle.pen.specs.Wrote.{wrote-as, wrote-none, wrote-length}
+use Rattle.pen.specs.Wrote.{wrote-as, wrote-none, wrote-length, left-length}
 use Rattle.meaning.specs.Rules.{singleLine, singleLineUnlessMarked, commaSeparated, curlyBrackets, token, sp, child, ruleOf}
 use Rattle.meaning.specs.Children.{a as ofKind, type, value}
 use Rattle.meaning.specs.Settings.{defaultSettings}

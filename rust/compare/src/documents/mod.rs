@@ -12,6 +12,8 @@ mod pools;
 mod refusals;
 mod wrapper;
 
+pub use generated::any_table;
+
 use judge::Judge;
 use oracle::crate_printer;
 use oracle::rng::Rng;

@@ -10,7 +10,7 @@ mod short;
 mod unicode;
 mod wrapper;
 
-pub use random::any_value;
+pub use random::{any_settings, any_value};
 
 use crate::judge::Judge;
 use oracle::crate_printer;
