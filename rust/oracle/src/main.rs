@@ -1,5 +1,5 @@
 use oracle::crate_printer;
-use oracle::run::{compare, definitions, known, literals, print, vectors, Tally, ABSENT};
+use oracle::run::{compare, definitions, jobs, known, literals, print, vectors, Tally, ABSENT};
 use std::fs;
 use std::path::Path;
 use std::process::ExitCode;
@@ -7,6 +7,8 @@ use std::process::ExitCode;
 const USAGE: &str = "usage: oracle print <breaks> <level> <prefix> <words> <pool>
        oracle display <breaks> <level> <prefix> <words> <pool>
        oracle print-file <table file>
+       oracle archive <table file>
+       oracle digest <table file>
        oracle literal <d|s> <breaks> <level> <prefix> <value>
        oracle known
        oracle compare [seed] [count]
@@ -31,6 +33,8 @@ fn main() -> ExitCode {
         ["print", a, b, c, d, e] => return show(|| print::document([a, b, c, d, e], false)),
         ["display", a, b, c, d, e] => return show(|| print::document([a, b, c, d, e], true)),
         ["print-file", path] => return show(|| print::file(path)),
+        ["archive", path] => return show(|| jobs::archive(path)),
+        ["digest", path] => return show(|| jobs::digest(path)),
         ["literal", a, b, c, d, e] => return show(|| print::literal([a, b, c, d, e])),
         _ => {}
     }

@@ -1,6 +1,6 @@
 //! `samples/registry.graphql` is what the crate's printer, and the plain one, give for `samples/registry.dvt`.
 
-use oracle::run::print;
+use oracle::run::{jobs, print};
 use oracle::{crate_printer, plain_check, plain_print, table_file, Settings};
 use std::fs;
 use std::path::Path;
@@ -34,4 +34,26 @@ fn a_damaged_file_is_none() {
     let mut other = file;
     other[7] += 1;
     assert_eq!(table_file::read(&other), None);
+}
+
+#[test]
+fn the_jobs_stored_outputs_are_the_crates() {
+    let registry = sample("registry.dvt");
+    let stored = |name: &str, file: &str| {
+        let crates = Path::new(env!("CARGO_MANIFEST_DIR")).join("../../crates");
+        fs::read(crates.join(name).join(file)).unwrap()
+    };
+    let text = match jobs::archive(&registry) {
+        Ok(text) if crate_printer::PRESENT => text.into_bytes(),
+        _ => {
+            let table = table_file::read(&fs::read(&registry).unwrap()).unwrap();
+            plain_print::print_document(&table.words, &table.pool, &Settings::on("  ", 0))
+        }
+    };
+    for name in ["archive_exporter", "digest_job"] {
+        assert!(stored(name, "stdin") == fs::read(&registry).unwrap());
+    }
+    let digest = jobs::digest_line(&text).into_bytes();
+    assert!(stored("archive_exporter", "stdout") == text);
+    assert_eq!(stored("digest_job", "stdout"), digest);
 }

@@ -3,6 +3,7 @@
 pub mod compare;
 pub mod coverage;
 pub mod definitions;
+pub mod jobs;
 pub mod known;
 pub mod literals;
 pub mod print;

@@ -35,15 +35,15 @@ pub fn document(fields: [&str; 5], display: bool) -> Result<String, String> {
 
 /// The document of a table file under the default settings.
 pub fn file(path: &str) -> Result<String, String> {
+    file_under(path, &Settings::default())
+}
+
+pub fn file_under(path: &str, settings: &Settings) -> Result<String, String> {
     let file = fs::read(path).map_err(|error| format!("{path}: {error}"))?;
     let table = table_file::read(&file).ok_or(format!("{path}: not a table file"))?;
     checked(&table.words, &table.pool)?;
-    let settings = Settings::default();
-    Ok(crate_printer::print_document(
-        &table.words,
-        &table.pool,
-        &settings,
-    ))
+    let (words, pool) = (&table.words, &table.pool);
+    Ok(crate_printer::print_document(words, pool, settings))
 }
 
 fn checked(words: &[u32], pool: &[u8]) -> Result<(), String> {

@@ -2,6 +2,7 @@
 
 mod common;
 mod documents;
+mod jobs;
 mod literals;
 mod refusals;
 mod usage;

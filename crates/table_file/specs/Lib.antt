@@ -1,0 +1,4 @@
+pub mod File
+pub mod Ways
+pub mod Within
+pub mod ReadsBack
