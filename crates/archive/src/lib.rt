@@ -1,12 +1,9 @@
 // What the archive exporter and the digest job print: a table file's document, with the default settings.
 ghost use mathlib.Core.Path.{_≡_};
 ghost use lib.ListN.{take};
-ghost use Rattle.meaning.specs.Answers.{answer, refusalAnswer, printedAnswer};
+ghost use Rattle.meaning.specs.Answers.{answer, printedAnswer};
 ghost use Rattle.archive.specs.Archive.{archivedAnswer, tooLong, archived};
-use meaning::NodeNumber;
-use meaning::Offset;
 use meaning::Printed;
-use meaning::Refusal;
 use table_file::Head;
 use table_file::TableFile;
 
@@ -30,48 +27,13 @@ fn refused(number: u64) -> Archived
     }
 }
 
-fn at(number: u64, node: NodeNumber) -> Archived
-    ensures { λ r. ⌜ archivedAnswer r ≡ answer number (node .0) 0 ⌝ }
-{
-    Archived {
-        number: number,
-        place: node.0 as u64,
-        length: 0,
-    }
-}
-
-fn with_length(number: u64, n: Offset) -> Archived
-    ensures { λ r. ⌜ archivedAnswer r ≡ answer number 0 (n .0) ⌝ }
-{
-    Archived {
-        number: number,
-        place: 0,
-        length: n.0,
-    }
-}
-
-fn refusal(why: Refusal) -> Archived
-    ensures { λ r. ⌜ archivedAnswer r ≡ refusalAnswer why ⌝ }
-{
-    match why {
-        Refusal::Settings => refused(1),
-        Refusal::Size => refused(2),
-        Refusal::Node(i) => at(3, i),
-        Refusal::Nesting(i) => at(4, i),
-        Refusal::Depth(i) => at(5, i),
-        Refusal::Children(i) => at(6, i),
-        Refusal::Text(i) => at(7, i),
-        Refusal::Room(n) => with_length(8, n),
-        Refusal::Literal => refused(9),
-    }
-}
-
 fn printed(p: Printed) -> Archived
     ensures { λ r. ⌜ archivedAnswer r ≡ printedAnswer p ⌝ }
 {
-    match p {
-        Printed::Written(n) => with_length(0, n),
-        Printed::Refused(why) => refusal(why),
+    Archived {
+        number: numbers::printed_number(p) as u64,
+        place: numbers::printed_place(p),
+        length: numbers::printed_length(p) as usize,
     }
 }
 

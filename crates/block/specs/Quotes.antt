@@ -1,10 +1,9 @@
 -- Three quotes at a place of a line, and the line escaped up to there.
 use mathlib.Core.Path.{_≡_, refl, _∙_}
-use mathlib.Core.Bool.{Bool, true, false, _&&_}
+use mathlib.Core.Bool.{Bool, true, false}
 use mathlib.Core.List.{List, [], _∷_, _++_}
 use Prim.Native.Nat.{ℕ, zero, suc, _+_, _-_, _≤_, _<_}
 use native.Mathlib.Omega.{arith}
-use lib.Dec.{eqb}
 use lib.ListN.{length, take, drop, getD, length-drop, drop-of-length-le}
 use lib.Seq.{drop-drop}
 use Rattle.meaning.specs.Ascii.{if_then_else_, quote, backslash, tripleQuote}
@@ -16,24 +15,6 @@ use Rattle.block.specs.Places.{upTo, byteThat, is, First, found-holds}
 pub three-begin-with-one : (w : List ℕ) → byteThat (is quote) w ≡ false → threeQuotes w ≡ false
 three-begin-with-one [] h = no-quote-no-three [] refl
 three-begin-with-one (b ∷ w) h = no-quote-no-three (b ∷ w) h
-
-few-no-three : (s : List ℕ) → length s ≤ 2 → threeQuotes s ≡ false
-unfolding threeQuotes
-few-no-three [] h = refl
-few-no-three (a ∷ []) h = refl
-few-no-three (a ∷ (b ∷ [])) h = refl
-few-no-three (a ∷ (b ∷ (c ∷ s))) h = absurd (omega arith)
-
-module _ (l : List ℕ) (i : ℕ) where
-  pub short-no-three : length l ≤ i + 2 → threeQuotes (drop i l) ≡ false
-  short-no-three h = few-no-three (drop i l) (omega (arith, length-drop i l))
-
-  pub three-at : i + 2 < length l
-      → threeQuotes (drop i l) ≡ eqb (getD l i 0) quote && (eqb (getD l (i + 1) 0) quote && eqb (getD l (i + 2) 0) quote)
-  unfolding threeQuotes
-  three-at h =
-      let n : i + 1 + 1 ≡ i + 2 = omega arith in
-      rw (drop-one l i (omega arith), drop-one l (i + 1) (omega arith), n, drop-one l (i + 2) (omega arith))
 
 -- ---- a line escaped up to three quotes
 

@@ -4,7 +4,7 @@ ghost use mathlib.Core.List.{_∷_};
 ghost use Prim.Native.Nat.{_≤_};
 ghost use lib.ListN.{length, drop};
 ghost use Rattle.meaning.specs.Ascii.{lineFeed};
-ghost use Rattle.meaning.specs.Settings.{isBlank, times};
+ghost use Rattle.meaning.specs.Settings.{times};
 ghost use Rattle.meaning.specs.Block.{has, canBeBlockString, multiLine, threeQuotes, escapedLine, lines, blockLine, blockLines, blockString};
 ghost use Rattle.pen.specs.Wrote.{Wrote};
 ghost use Rattle.block.specs.Places.{First, Clear, byteThat, is, isEither, isLineEnd, isText};
@@ -81,15 +81,6 @@ fn find_line_end(value: &[u8], from: usize) -> usize
     i
 }
 
-fn is_whitespace(b: u8) -> bool
-    ensures { λ r. ⌜ r ≡ isBlank b ⌝ }
-{
-    if b == b' ' {
-        return true;
-    }
-    b == b'\t'
-}
-
 // The first byte from `from` on that is neither space nor tab, or the end.
 fn skip_whitespace(value: &[u8], from: usize) -> usize
     requires { ⌜ from ≤ length (now value) ⌝ }
@@ -97,7 +88,7 @@ fn skip_whitespace(value: &[u8], from: usize) -> usize
 {
     let mut i = from;
     while i < value.len() {
-        if !is_whitespace(value[i]) {
+        if !marks::is_blank(value[i]) {
             return i;
         }
         i += 1;
@@ -156,22 +147,6 @@ fn multi_line(value: &[u8]) -> bool
     value[n - 1] == b'\\'
 }
 
-fn triple_quote_at(line: &[u8], i: usize) -> bool
-    requires { ⌜ i ≤ length (now line) ⌝ }
-    ensures { λ r. ⌜ r ≡ threeQuotes (drop i (now (line .entry))) ⌝ }
-{
-    if line.len() - i < 3 {
-        return false;
-    }
-    if line[i] != b'"' {
-        return false;
-    }
-    if line[i + 1] != b'"' {
-        return false;
-    }
-    line[i + 2] == b'"'
-}
-
 // The first three quotes from `from` on, or the end.
 fn find_triple_quote(line: &[u8], from: usize) -> usize
     requires { ⌜ from ≤ length (now line) ⌝ }
@@ -183,7 +158,7 @@ fn find_triple_quote(line: &[u8], from: usize) -> usize
         if quote == line.len() {
             return quote;
         }
-        if triple_quote_at(line, quote) {
+        if marks::three_quotes(line, quote) {
             return quote;
         }
         i = quote + 1;

@@ -3,21 +3,16 @@ use mathlib.Core.Path.{_≡_, refl, sym, ap, subst, _∙_}
 use mathlib.Core.Option.{Option, none, some}
 use mathlib.Core.List.{List}
 use Prim.Native.Nat.{ℕ}
-use Rattle.meaning.specs.Reading.{Form, quotedForm, blockForm}
+use Rattle.meaning.specs.Reading.{Form}
 use Rattle.meaning.specs.Answers.{Answer, checkedAnswer, readingAnswer, formRead}
 use Rattle.meaning.specs.Entries.{Outcome}
+use Rattle.numbers.specs.Forms.{formNumber}
 use Rattle.meaning.specs.declared.Form.{Form as DeclaredForm}
 use Rattle.meaning.specs.declared.Offset.{Offset}
 use Rattle.meaning.specs.declared.Refusal.{Refusal}
 use Rattle.meaning.specs.declared.Checked.{Checked}
 use Rattle.meaning.specs.declared.Reading.{Reading}
 use Rattle.meaning.specs.declared.Reading.the-variants.{Value, Refused as NotRead}
-
--- 0 for none, 1 quoted, 2 block
-abbrev pub formNumber : Option Form → ℕ
-formNumber none = 0
-formNumber (some quotedForm) = 1
-formNumber (some blockForm) = 2
 
 -- the result, the length and the output after the call are those of the outcome
 pub record Told (o : Outcome) (n l : ℕ) (d : List ℕ) : Type 0 where

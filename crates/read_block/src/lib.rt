@@ -2,8 +2,7 @@
 ghost use mathlib.Core.Path.{_≡_};
 ghost use Prim.Native.Nat.{_+_, _≤_, _<_, min};
 ghost use lib.ListN.{length, take, drop};
-ghost use Rattle.meaning.specs.Settings.{isBlank};
-ghost use Rattle.meaning.specs.Block.{threeQuotes, indent, commonIndent, blockStringValue};
+ghost use Rattle.meaning.specs.Block.{indent, commonIndent, blockStringValue};
 ghost use Rattle.meaning.specs.Reading.{blockForm, value, blockFront, characters, asBlock};
 ghost use Rattle.meaning.specs.declared.Form.the-variants.{Block};
 ghost use Rattle.meaning.specs.declared.Reading.the-variants.{Value};
@@ -21,23 +20,13 @@ ghost use Rattle.read_block_laws.specs.Text.{stops, runLength, endLength, textO
 ghost use Rattle.read_block_laws.specs.Plain.{isMark, marked, Plain};
 ghost use Rattle.read_block.specs.Indent.{indentSeen};
 
-const TAB: u8 = 0x09;
-
 const LINE_FEED: u8 = 0x0A;
 
 const CARRIAGE_RETURN: u8 = 0x0D;
 
-const SPACE: u8 = 0x20;
-
 const QUOTE: u8 = 0x22;
 
 const BACKSLASH: u8 = 0x5C;
-
-fn is_blank(b: u8) -> bool
-    ensures { λ r. ⌜ r ≡ isBlank b ⌝ }
-{
-    (b == SPACE) | (b == TAB)
-}
 
 fn is_line_end(b: u8) -> bool
     ensures { λ r. ⌜ r ≡ isLineEnd b ⌝ }
@@ -48,23 +37,7 @@ fn is_line_end(b: u8) -> bool
 fn is_white(b: u8) -> bool
     ensures { λ r. ⌜ r ≡ isWhite b ⌝ }
 {
-    is_line_end(b) | is_blank(b)
-}
-
-// Three quotes stand at `i`.
-pub fn three_quotes(s: &[u8], i: usize) -> bool
-    ensures { λ r. ⌜ r ≡ threeQuotes (drop i (now (s .entry))) ⌝ }
-{
-    if s.len() < 3 {
-        return false;
-    }
-    if s.len() - 3 < i {
-        return false;
-    }
-    if s[i] != QUOTE {
-        return false;
-    }
-    (s[i + 1] == QUOTE) & (s[i + 2] == QUOTE)
+    is_line_end(b) | marks::is_blank(b)
 }
 
 // `\"""` stands at `i`.
@@ -77,7 +50,7 @@ fn is_escape(s: &[u8], i: usize) -> bool
     if s[i] != BACKSLASH {
         return false;
     }
-    three_quotes(s, i + 1)
+    marks::three_quotes(s, i + 1)
 }
 
 // LF, CR, a quote or a backslash. Nothing branches, so that sixteen bytes are tested at once.
@@ -137,7 +110,7 @@ fn is_closed(s: &[u8]) -> bool
 {
     let mut i = next_mark(s, 0);
     while i < s.len() {
-        if three_quotes(s, i) {
+        if marks::three_quotes(s, i) {
             return i + 3 == s.len();
         }
         if is_escape(s, i) {
@@ -155,7 +128,7 @@ fn blanks_end(s: &[u8], i: usize) -> usize
 {
     let mut j = i;
     while j < s.len() {
-        if !is_blank(s[j]) {
+        if !marks::is_blank(s[j]) {
             return j;
         }
         j += 1;

@@ -10,7 +10,7 @@ pub fn read_literal(text: &[u8], out: &mut [u8]) -> meaning::Reading
     if !text::is_utf8(text) {
         return meaning::Reading::Refused(meaning::Refusal::Literal);
     }
-    if read_block::three_quotes(text, 0) {
+    if marks::three_quotes(text, 0) {
         return read_block::read_block(text, out);
     }
     if text.len() == 0 {

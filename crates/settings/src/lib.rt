@@ -5,18 +5,15 @@ ghost use Rattle.meaning.specs.Settings.{settings, blank, settingsFault};
 const LONGEST_PREFIX: usize = 16;
 
 // Whether there are only spaces and tabs.
-fn is_blank(prefix: &[u8]) -> bool
+fn all_blank(prefix: &[u8]) -> bool
     ensures { λ r. ⌜ r ≡ blank (now (prefix .entry)) ⌝ }
 {
     let mut i = 0;
     while i < prefix.len() {
-        let b = prefix[i];
-        i += 1;
-        if b != b' ' {
-            if b != b'\t' {
-                return false;
-            }
+        if !marks::is_blank(prefix[i]) {
+            return false;
         }
+        i += 1;
     }
     true
 }
@@ -28,7 +25,7 @@ pub fn settings_fault(levels: usize, breaks: bool, prefix: &[u8], level: usize) 
     if LONGEST_PREFIX < prefix.len() {
         return true;
     }
-    if !is_blank(prefix) {
+    if !all_blank(prefix) {
         return true;
     }
     levels < level

@@ -1,29 +1,22 @@
--- A length, or what the refusal says.
-use mathlib.Core.Path.{sym, ap, _∙_}
+-- The three numbers of the answer.
 use borrow.Author.Needs.{needs}
-use Rattle.meaning.specs.Answers.{printedAnswer}
 use Rattle.archive.proofs.printed.Statement.{statement}
 use Rattle.archive.proofs.printed.Tie as tie
 
-enum-known-p : tie.Need-enum-known-p
-enum-known-p c = search needs
+printed-number-requires : tie.Need-printed-number-requires
+printed-number-requires c κs = tt
 
-with-length-requires : tie.Need-with-length-requires
-with-length-requires c κs = search needs
+cast-t3 : tie.Need-cast-t3
+cast-t3 c = search needs
 
-enum-known-p-2 : tie.Need-enum-known-p-2
-enum-known-p-2 c = search needs
+printed-place-requires : tie.Need-printed-place-requires
+printed-place-requires c κs = tt
 
-refusal-requires : tie.Need-refusal-requires
-refusal-requires c κs = search needs
+printed-length-requires : tie.Need-printed-length-requires
+printed-length-requires c κs = tt
 
 returns : tie.Need-returns
-returns c = c .with-length .ensures ∙ sym (ap printedAnswer (c .before .before .p .given .1))
-
-returns-2 : tie.Need-returns-2
-returns-2 c = c .refusal .ensures ∙ sym (ap printedAnswer (c .before .before .p2 .given .1))
+returns c = rw (c .before .before .printed-number .ensures, c .before .printed-place .ensures, c .printed-length .ensures)
 
 pub printed-spec : {M : Type 1} → statement M
-printed-spec =
-    tie.close
-    (tie.spec enum-known-p with-length-requires enum-known-p-2 refusal-requires returns returns-2)
+printed-spec = tie.close (tie.spec printed-number-requires cast-t3 printed-place-requires printed-length-requires returns)

@@ -27,15 +27,15 @@ returns c =
     let q = clear-for three-begin-with-one (clear-before (c .before .find .ensures)) in
     found-nowhere (clear-on (c .before .before .loop .inv) q) (omega arith)
 
-triple-quote-at-requires : tie.Need-triple-quote-at-requires Inv-loop μ-loop
-triple-quote-at-requires c κs = search needs
+three-quotes-requires : tie.Need-three-quotes-requires Inv-loop μ-loop
+three-quotes-requires c κs = search needs
 
 returns-2 : tie.Need-returns-2 Inv-loop μ-loop
 returns-2 c =
     let f = c .before .before .before in
     let q = clear-for three-begin-with-one (clear-before (f .find .ensures)) in
     found (clear-on (f .before .loop .inv) q) (before-end (f .find .ensures) (c .before .before .if1 .left))
-    (sym (c .before .triple-quote-at .ensures) ∙ c .if2 .taken)
+    (sym (c .before .three-quotes .ensures) ∙ c .if2 .taken)
 
 add-i : tie.Need-add-i Inv-loop μ-loop
 add-i c = search needs
@@ -48,7 +48,7 @@ loop-again c =
     let f = c .before .before .before in
     let q = clear-for three-begin-with-one (clear-before (f .find .ensures)) in
     let h = before-end (f .find .ensures) (c .before .before .if1 .left) in
-    clear-on (clear-on (f .before .loop .inv) q) (clear-one h (sym (c .before .triple-quote-at .ensures) ∙ c .if2 .left))
+    clear-on (clear-on (f .before .loop .inv) q) (clear-one h (sym (c .before .three-quotes .ensures) ∙ c .if2 .left))
 
 pub find-triple-quote-spec : {M : Type 1} → statement M
 find-triple-quote-spec =
@@ -59,7 +59,7 @@ find-triple-quote-spec =
     loop-holds
     find-requires
     returns
-    triple-quote-at-requires
+    three-quotes-requires
     returns-2
     add-i
     loop-less

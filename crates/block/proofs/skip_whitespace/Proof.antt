@@ -16,17 +16,17 @@ abbrev μ-loop : tie.MeasureT-loop
 loop-holds : tie.Need-loop-holds Inv-loop μ-loop
 loop-holds c = clear-at-first (c .before .pre)
 
-shared-slice-read-is-whitespace : tie.Need-shared-slice-read-is-whitespace Inv-loop μ-loop
-shared-slice-read-is-whitespace c = search needs
+shared-slice-read-is-blank : tie.Need-shared-slice-read-is-blank Inv-loop μ-loop
+shared-slice-read-is-blank c = search needs
 
-is-whitespace-requires : tie.Need-is-whitespace-requires Inv-loop μ-loop
-is-whitespace-requires c κs = search needs
+is-blank-requires : tie.Need-is-blank-requires Inv-loop μ-loop
+is-blank-requires c κs = search needs
 
 returns : tie.Need-returns Inv-loop μ-loop
 returns c =
     let t = c .before .before .before in
     let h = t .loop-test .taken in
-    found (t .before .loop .inv) h (byte-at isText _ _ h ∙ rw (← (c .before .is-whitespace .ensures)) (c .if1 .taken))
+    found (t .before .loop .inv) h (byte-at isText _ _ h ∙ rw (← (c .before .is-blank .ensures)) (c .if1 .taken))
 
 add-i : tie.Need-add-i Inv-loop μ-loop
 add-i c = search needs
@@ -38,7 +38,7 @@ loop-again : tie.Need-loop-again Inv-loop μ-loop
 loop-again c =
     let t = c .before .before .before in
     let h = t .loop-test .taken in
-    clear-on (t .before .loop .inv) (clear-one h (byte-at isText _ _ h ∙ rw (← (c .before .is-whitespace .ensures)) (c .if1 .left)))
+    clear-on (t .before .loop .inv) (clear-one h (byte-at isText _ _ h ∙ rw (← (c .before .is-blank .ensures)) (c .if1 .left)))
 
 returns-2 : tie.Need-returns-2 Inv-loop μ-loop
 returns-2 c = found-nowhere (c .before .loop .inv) (c .loop-test .left)
@@ -50,8 +50,8 @@ skip-whitespace-spec =
     Inv-loop
     μ-loop
     loop-holds
-    shared-slice-read-is-whitespace
-    is-whitespace-requires
+    shared-slice-read-is-blank
+    is-blank-requires
     returns
     add-i
     loop-less

@@ -8,7 +8,7 @@ use Rattle.base.specs.Bools.{not-true}
 use Rattle.base.specs.Finite.{all}
 use Rattle.meaning.specs.Children.{rows, rowOf}
 use Rattle.meaning.specs.Refusals.{takesNoText}
-use Rattle.nodes.proofs.Arms.{Rest, member, arm}
+use Rattle.base.specs.Arms.{Rest, member, arm}
 use Rattle.nodes.proofs.takes_no_text.Statement.{statement}
 use Rattle.nodes.proofs.takes_no_text.Tie as tie
 

@@ -8,7 +8,7 @@ use lib.Dec.{eqb}
 use borrow.Author.Tests.{eqb-true}
 use Rattle.base.specs.Finite.{all}
 use Rattle.meaning.specs.Children.{rows, rowOf}
-use Rattle.nodes.proofs.Arms.{Rest, member, arm}
+use Rattle.base.specs.Arms.{Rest, member, arm}
 use Rattle.nodes.proofs.variants_of.Statement.{statement}
 use Rattle.nodes.proofs.variants_of.Tie as tie
 

@@ -9,14 +9,14 @@ use Rattle.settings.proofs.settings_fault.Tie as tie
 returns : tie.Need-returns
 returns c = prefix-too-long _ _ _ _ (c .if1 .taken)
 
-is-blank-requires : tie.Need-is-blank-requires
-is-blank-requires c κs = search needs
+all-blank-requires : tie.Need-all-blank-requires
+all-blank-requires c κs = search needs
 
 returns-2 : tie.Need-returns-2
-returns-2 c = prefix-not-blank _ _ _ _ (c .before .before .if1 .left) (sym (c .before .is-blank .ensures) ∙ not-true _ (c .if2 .taken))
+returns-2 c = prefix-not-blank _ _ _ _ (c .before .before .if1 .left) (sym (c .before .all-blank .ensures) ∙ not-true _ (c .if2 .taken))
 
 returns-3 : tie.Need-returns-3
-returns-3 c = level-tells _ _ _ _ (c .before .before .if1 .left) (sym (c .before .is-blank .ensures) ∙ not-false _ (c .if2 .left))
+returns-3 c = level-tells _ _ _ _ (c .before .before .if1 .left) (sym (c .before .all-blank .ensures) ∙ not-false _ (c .if2 .left))
 
 pub settings-fault-spec : {M : Type 1} → statement M
-settings-fault-spec = tie.close (tie.spec returns is-blank-requires returns-2 returns-3)
+settings-fault-spec = tie.close (tie.spec returns all-blank-requires returns-2 returns-3)

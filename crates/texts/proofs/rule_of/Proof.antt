@@ -55,19 +55,19 @@ returns-14 : tie.Need-returns-14
 returns-14 c = unfold rowOf in rw (c .match .keys14)
 
 returns-15 : tie.Need-returns-15
-returns-15 c = by-range noText 34 37 single (unfold rowOf in refl) _ (omega arith) (c .before .before .match .rest)
+returns-15 c = by-range noText 34 3 single (unfold rowOf in refl) _ (omega arith) (c .before .before .match .rest)
 
 returns-16 : tie.Need-returns-16
-returns-16 c = by-range noText 40 44 single (unfold rowOf in refl) _ (omega arith) (c .before .before .before .before .match .rest)
+returns-16 c = by-range noText 40 4 single (unfold rowOf in refl) _ (omega arith) (c .before .before .before .before .match .rest)
 
 returns-17 : tie.Need-returns-17
 returns-17 c = by-range name 0 34 single (unfold rowOf in refl) _ (omega arith) (c .before .match .rest)
 
 returns-18 : tie.Need-returns-18
-returns-18 c = by-range name 37 40 single (unfold rowOf in refl) _ (omega arith) (c .before .before .before .match .rest)
+returns-18 c = by-range name 37 3 single (unfold rowOf in refl) _ (omega arith) (c .before .before .before .match .rest)
 
 returns-19 : tie.Need-returns-19
-returns-19 c = by-range name 44 45 single (unfold rowOf in refl) _ (omega arith) (c .before .before .before .before .match .rest)
+returns-19 c = by-range name 44 1 single (unfold rowOf in refl) _ (omega arith) (c .before .before .before .before .match .rest)
 
 pub rule-of-spec : {M : Type 1} → statement M
 rule-of-spec =

@@ -1,8 +1,8 @@
--- `read_block::is_blank` is the test of its contract.
+-- `marks::is_blank` is the test of its contract.
 use mathlib.Core.Path.{refl}
 use Rattle.meaning.specs.Settings.{isBlank}
-use Rattle.read_block.proofs.is_blank.Statement.{statement}
-use Rattle.read_block.proofs.is_blank.Tie as tie
+use Rattle.marks.proofs.is_blank.Statement.{statement}
+use Rattle.marks.proofs.is_blank.Tie as tie
 
 returns : tie.Need-returns
 unfolding isBlank

@@ -1,12 +1,12 @@
--- `read_block::three_quotes` tells three quotes at a place: without room for three bytes there are none, and otherwise the three
+-- `marks::three_quotes` tells three quotes at a place: without room for three bytes there are none, and otherwise the three
 -- bytes there are compared.
 use mathlib.Core.Path.{sym, _∙_}
 use native.Mathlib.Omega.{arith}
 use borrow.Author.Needs.{needs}
 use borrow.Author.Tests.{eq-eqb, ne-eqb}
 use Rattle.read_block_laws.specs.Closing.{no-room-for-three-quotes, three-quotes-at}
-use Rattle.read_block.proofs.three_quotes.Statement.{statement}
-use Rattle.read_block.proofs.three_quotes.Tie as tie
+use Rattle.marks.proofs.three_quotes.Statement.{statement}
+use Rattle.marks.proofs.three_quotes.Tie as tie
 
 returns : tie.Need-returns
 returns c = sym (no-room-for-three-quotes (c .before .args .s .now) (c .before .args .i) (omega arith))
