@@ -29,7 +29,7 @@ tooLong NoHead = 20
 tooLong CutShort = 21
 tooLong (Told words whole) = if ltb longestFile whole then 2 else 21
 
--- words that have no room in the lent ones are more than 8,192 nodes have
+-- where 40,960 words are lent, as both jobs lend them, those that find no room are more than 8,192 nodes have
 unfoldable pub archivedTable : TableFile → List ℕ → List ℕ → List ℕ → Outcome
 unfolding printedDocument
 archivedTable (Table n pool) file words out = printedDocument defaultSettings (take n words) (drop (pool .0) file) out
