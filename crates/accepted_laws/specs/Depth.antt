@@ -8,19 +8,19 @@ use Rattle.std.proofs.Math.Decide.{dec_lt}
 use Rattle.base.specs.Bools.{clash, and_right, and_both}
 use Rattle.meaning.specs.Ascii.{if◌then◌else◌}
 use Rattle.meaning.specs.First.{count}
-use Rattle.meaning.specs.Table.{nodes, end_at, forest, treeAt, tree_of}
-use Rattle.meaning.specs.Refusals.{isAbove, depthAt, Accepted}
+use Rattle.meaning.specs.Table.{nodes, end_at, forest, tree_at, tree_of}
+use Rattle.meaning.specs.Refusals.{is_above, depth_at, Accepted}
 use Rattle.tree_laws.specs.Height.{height, heights}
-use Rattle.tree_laws.specs.Forest.{Shaped, Range, children-range, rest-range, forest-more, forest-none, tall-below}
-use Rattle.accepted_laws.specs.Shape.{accepted-shaped, accepted-depth, accepted-some-node}
+use Rattle.tree_laws.specs.Forest.{Shaped, Range, children_range, rest_range, forest_more, forest_none, tall_below}
+use Rattle.accepted_laws.specs.Shape.{accepted_shaped, accepted_depth, accepted_some_node}
 
 -- ---- counting
 
 -- a test that holds wherever another does holds at no fewer numbers
-count-all : (f g : ℕ → Bool) (n : ℕ) → ((k : ℕ) → k < n → f k ≡ true → g k ≡ true) → count f n ≤ count g n
+count_all : (f g : ℕ → Bool) (n : ℕ) → ((k : ℕ) → k < n → f k ≡ true → g k ≡ true) → count f n ≤ count g n
 unfolding count
-count-all f g zero h = le_refl 0
-count-all f g (suc n) h = go (f n) refl (g n) refl (count-all f g n (λ k l. h k (omega arith)))
+count_all f g zero h = le_refl 0
+count_all f g (suc n) h = go (f n) refl (g n) refl (count_all f g n (λ k l. h k (omega arith)))
   where
     go : (x : Bool) → f n ≡ x → (y : Bool) → g n ≡ y → count f n ≤ count g n
         → (if x then suc (count f n) else count f n) ≤ (if y then suc (count g n) else count g n)
@@ -37,17 +37,17 @@ count_next g n = go (g n)
     go true = omega arith
     go false = le_refl (count g n)
 
-count-up : (g : ℕ → Bool) (n j : ℕ) → n ≤ j → count g n ≤ count g j
-count-up g n zero h = let e : n ≡ 0 = omega arith in rw e (le_refl (count g 0))
-count-up g n (suc j) h =
+count_up : (g : ℕ → Bool) (n j : ℕ) → n ≤ j → count g n ≤ count g j
+count_up g n zero h = let e : n ≡ 0 = omega arith in rw e (le_refl (count g 0))
+count_up g n (suc j) h =
     ⊎_elim
     (λ (e : n ≡ suc j). rw e (le_refl (count g (suc j))))
-    (λ (l : n < suc j). le_trans (count-up g n j (omega arith)) (count_next g j))
+    (λ (l : n < suc j). le_trans (count_up g n j (omega arith)) (count_next g j))
     (eq-or-lt_of_le h)
 
 -- one more where the test holds at n
 count_past : (g : ℕ → Bool) (n j : ℕ) → g n ≡ true → n < j → count g n + 1 ≤ count g j
-count_past g n j e h = le_trans here (count-up g (suc n) j h)
+count_past g n j e h = le_trans here (count_up g (suc n) j h)
   where
     here : count g n + 1 ≤ count g (suc n)
     here = unfold count in rw e (omega arith)
@@ -55,56 +55,56 @@ count_past g n j e h = le_trans here (count-up g (suc n) j h)
 -- ---- depths
 
 -- whatever is above i is above a node inside i's subtree
-above-both : {w p : List ℕ} → Shaped w p → (i j k : ℕ) → i < nodes w → i < j → j < end_at w i → k < i
-    → isAbove w i k ≡ true → isAbove w j k ≡ true
-unfolding isAbove
-above-both {w} s i j k h a b l e =
+above_both : {w p : List ℕ} → Shaped w p → (i j k : ℕ) → i < nodes w → i < j → j < end_at w i → k < i
+    → is_above w i k ≡ true → is_above w j k ≡ true
+unfolding is_above
+above_both {w} s i j k h a b l e =
     let inside = ltb-true i (end_at w k) (and_right (ltb k i) _ e) in
     and_both (ltb k j) (ltb j (end_at w k)) (lt-ltb k j (omega arith)) (lt-ltb j (end_at w k) (omega (arith, s.nested k i (omega arith) l inside)))
 
 -- a node inside i's subtree is deeper than i
-deeper-inside : {w p : List ℕ} → Shaped w p → (i : ℕ) → i < nodes w → (j : ℕ) → i + 1 ≤ j → j < end_at w i → depthAt w i + 1 ≤ depthAt w j
-unfolding depthAt
-deeper-inside {w} s i h j a b =
-    let all = count-all (isAbove w i) (isAbove w j) i (λ k. above-both s i j k h (omega arith) b) in
-    omega (arith, count_past (isAbove w j) i j here (omega arith))
+deeper_inside : {w p : List ℕ} → Shaped w p → (i : ℕ) → i < nodes w → (j : ℕ) → i + 1 ≤ j → j < end_at w i → depth_at w i + 1 ≤ depth_at w j
+unfolding depth_at
+deeper_inside {w} s i h j a b =
+    let all = count_all (is_above w i) (is_above w j) i (λ k. above_both s i j k h (omega arith) b) in
+    omega (arith, count_past (is_above w j) i j here (omega arith))
   where
-    here : isAbove w j i ≡ true
-    here = unfold isAbove in and_both (ltb i j) (ltb j (end_at w i)) (lt-ltb i j (omega arith)) (lt-ltb j (end_at w i) b)
+    here : is_above w j i ≡ true
+    here = unfold is_above in and_both (ltb i j) (ltb j (end_at w i)) (lt-ltb i j (omega arith)) (lt-ltb j (end_at w i) b)
 
 -- ---- heights
 
 module _ {w p : List ℕ} (ok : Accepted w p) where
   shaped : Shaped w p
-  shaped = accepted-shaped ok
+  shaped = accepted_shaped ok
 
   -- trees whose nodes are at depth d or deeper; n bounds how many nodes there are
-  heights-in : (n i e d : ℕ) → Range w i e → e - i ≤ n → d ≤ 65 → ((j : ℕ) → i ≤ j → j < e → d ≤ depthAt w j) → d + heights (forest w p i e) ≤ 65
+  heights_in : (n i e d : ℕ) → Range w i e → e - i ≤ n → d ≤ 65 → ((j : ℕ) → i ≤ j → j < e → d ≤ depth_at w j) → d + heights (forest w p i e) ≤ 65
   unfolding height
-  heights-in zero i e d r b top deep = let o : e ≤ i = omega arith in rw (forest-none w p o) (omega arith)
-  heights-in (suc n) i e d r b top deep =
+  heights_in zero i e d r b top deep = let o : e ≤ i = omega arith in rw (forest_none w p o) (omega arith)
+  heights_in (suc n) i e d r b top deep =
       elim (dec_lt i e) [
-        | no k ↦ let o : e ≤ i = omega arith in rw (forest-none w p o) (omega arith)
+        | no k ↦ let o : e ≤ i = omega arith in rw (forest_none w p o) (omega arith)
         | yes k ↦
             let hi : i < nodes w = omega (arith, r.last) in
             let up : i < end_at w i = shaped.above i hi in
             let to : end_at w i ≤ e = r.whole i (omega arith) k in
-            let here : d ≤ depthAt w i = deep i (omega arith) k in
-            let room : d + 1 ≤ 65 = omega (arith, accepted-depth ok i hi) in
-            let inside = deeper-inside shaped i hi in
-            let below = heights-in n (i + 1) (end_at w i) (d + 1) (children-range shaped i hi) (omega arith) room (λ j a c. omega (arith, inside j a c)) in
-            let after = heights-in n (end_at w i) e d (rest-range shaped r k) (omega arith) top (λ j a c. deep j (omega arith) c) in
-            rw (forest-more shaped r k) (omega (arith, tall-below w p i))
+            let here : d ≤ depth_at w i = deep i (omega arith) k in
+            let room : d + 1 ≤ 65 = omega (arith, accepted_depth ok i hi) in
+            let inside = deeper_inside shaped i hi in
+            let below = heights_in n (i + 1) (end_at w i) (d + 1) (children_range shaped i hi) (omega arith) room (λ j a c. omega (arith, inside j a c)) in
+            let after = heights_in n (end_at w i) e d (rest_range shaped r k) (omega arith) top (λ j a c. deep j (omega arith) c) in
+            rw (forest_more shaped r k) (omega (arith, tall_below w p i))
       ]
 
   -- a node's depth and the height of its tree
-  pub depth-and-height : (i : ℕ) → i < nodes w → depthAt w i + height (treeAt w p i) ≤ 65
-  depth-and-height i h =
-      let room : depthAt w i + 1 ≤ 65 = omega (arith, accepted-depth ok i h) in
-      let inside = deeper-inside shaped i h in
-      let below = heights-in (end_at w i) (i + 1) (end_at w i) (depthAt w i + 1) (children-range shaped i h) (omega arith) room inside in
-      omega (arith, tall-below w p i)
+  pub depth_and_height : (i : ℕ) → i < nodes w → depth_at w i + height (tree_at w p i) ≤ 65
+  depth_and_height i h =
+      let room : depth_at w i + 1 ≤ 65 = omega (arith, accepted_depth ok i h) in
+      let inside = deeper_inside shaped i h in
+      let below = heights_in (end_at w i) (i + 1) (end_at w i) (depth_at w i + 1) (children_range shaped i h) (omega arith) room inside in
+      omega (arith, tall_below w p i)
 
-  pub accepted-height : height (tree_of w p) ≤ 65
+  pub accepted_height : height (tree_of w p) ≤ 65
   unfolding tree_of
-  accepted-height = omega (arith, depth-and-height 0 (accepted-some-node ok))
+  accepted_height = omega (arith, depth_and_height 0 (accepted_some_node ok))

@@ -4,14 +4,14 @@ use Rattle.std.specs.Prelude.{◌≡◌, List, ℕ, ◌≤◌}
 use Rattle.std.proofs.Common.{arith}
 use Rattle.meaning.specs.Table.{nodes, tree_of}
 use Rattle.meaning.specs.Refusals.{Accepted}
-use Rattle.tree_laws.specs.Size.{size, longest, size-of-tree, longest-of-tree}
-use Rattle.accepted_laws.specs.Shape.{accepted-shaped, accepted-pool, accepted-some-node, accepted-whole}
+use Rattle.tree_laws.specs.Size.{size, longest, size_of_tree, longest_of_tree}
+use Rattle.accepted_laws.specs.Shape.{accepted_shaped, accepted_pool, accepted_some_node, accepted_whole}
 
 module _ {w p : List ℕ} (ok : Accepted w p) where
-  pub accepted-size : size (tree_of w p) ≡ nodes w
+  pub accepted_size : size (tree_of w p) ≡ nodes w
   unfolding tree_of
-  accepted-size = omega (arith, size-of-tree (accepted-shaped ok) 0 (accepted-some-node ok), accepted-whole ok)
+  accepted_size = omega (arith, size_of_tree (accepted_shaped ok) 0 (accepted_some_node ok), accepted_whole ok)
 
-  pub accepted-texts : longest (tree_of w p) ≤ 65536
+  pub accepted_texts : longest (tree_of w p) ≤ 65536
   unfolding tree_of
-  accepted-texts = omega (arith, longest-of-tree (accepted-shaped ok) 0 (accepted-some-node ok), accepted-pool ok)
+  accepted_texts = omega (arith, longest_of_tree (accepted_shaped ok) 0 (accepted_some_node ok), accepted_pool ok)

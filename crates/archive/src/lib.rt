@@ -1,7 +1,7 @@
 // What the archive exporter and the digest job print: a table file's document, with the default settings.
 ghost use Rattle.std.specs.Prelude.{◌≡◌, take};
-ghost use Rattle.meaning.specs.Answers.{answer, printedAnswer};
-ghost use Rattle.archive.specs.Archive.{archivedAnswer, tooLong, archived};
+ghost use Rattle.meaning.specs.Answers.{answer, printed_answer};
+ghost use Rattle.archive.specs.Archive.{archived_answer, too_long_number, archived};
 
 use meaning::Printed;
 use table_file::{Head, TableFile};
@@ -18,7 +18,7 @@ pub struct Archived {
 }
 
 fn refused(number: u64) -> Archived
-    ensures { archivedAnswer result ≡ answer number 0 0 }
+    ensures { archived_answer result ≡ answer number 0 0 }
 {
     Archived {
         number: number,
@@ -28,7 +28,7 @@ fn refused(number: u64) -> Archived
 }
 
 fn printed(p: Printed) -> Archived
-    ensures { archivedAnswer result ≡ printedAnswer p }
+    ensures { archived_answer result ≡ printed_answer p }
 {
     Archived {
         number: numbers::printed_number(p) as u64,
@@ -38,7 +38,7 @@ fn printed(p: Printed) -> Archived
 }
 
 fn too_long(h: Head) -> Archived
-    ensures { archivedAnswer result ≡ answer (tooLong h) 0 0 }
+    ensures { archived_answer result ≡ answer (too_long_number h) 0 0 }
 {
     match h {
         Head::NotATable => refused(20),
@@ -54,7 +54,7 @@ fn too_long(h: Head) -> Archived
 
 // Reads the table into `words` and prints it into `out`. A refusal changes no byte of `out`.
 pub fn print_archive(file: &[u8], words: &mut [u32], out: &mut [u8]) -> Archived
-    ensures { ((archivedAnswer result, out.new), words.new) ≡ archived file.now words.old out.old }
+    ensures { ((archived_answer result, out.new), words.new) ≡ archived file.now words.old out.old }
 {
     if LONGEST_FILE < file.len() {
         return too_long(table_file::read_head(file));

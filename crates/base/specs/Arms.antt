@@ -10,13 +10,13 @@ abbrev pub NoneFrom : ℕ → ℕ → ℕ → Type 0
 NoneFrom low zero k = Unit {0}
 NoneFrom low (suc n) k = NoneFrom low n k × (k ≡ low + n → ⊥)
 
-pub past-from : (low n k : ℕ) → low ≤ k → NoneFrom low n k → low + n ≤ k
-past-from low zero k h r = omega arith
-past-from low (suc n) k h r = omega (arith, past-from low n k h r.0, r.1)
+pub past_from : (low n k : ℕ) → low ≤ k → NoneFrom low n k → low + n ≤ k
+past_from low zero k h r = omega arith
+past_from low (suc n) k h r = omega (arith, past_from low n k h r.0, r.1)
 
 -- so it is the one after them, where it is no greater
 pub last_of : (low n k : ℕ) → low ≤ k → k ≤ low + n → NoneFrom low n k → k ≡ low + n
-last_of low n k h l r = omega (arith, past-from low n k h r)
+last_of low n k h l r = omega (arith, past_from low n k h r)
 
 -- ---- the arm of a range
 
@@ -29,10 +29,10 @@ abbrev pub member : ℕ → List ℕ → Bool
 member k [] = false
 member k (x ∷ xs) = eqb k x || member k xs
 
-unless-single : (xs : List ℕ) (k : ℕ) (b : Bool) → Rest xs k → member k xs || b ≡ true → b ≡ true
-unless-single [] k b r h = h
-unless-single (x ∷ xs) k b r h =
-    unless-single xs k b r.0 (subst (λ (t : Bool). (t || member k xs) || b ≡ true) (ne_eqb k x r.1) h)
+unless_single : (xs : List ℕ) (k : ℕ) (b : Bool) → Rest xs k → member k xs || b ≡ true → b ≡ true
+unless_single [] k b r h = h
+unless_single (x ∷ xs) k b r h =
+    unless_single xs k b r.0 (subst (λ (t : Bool). (t || member k xs) || b ≡ true) (ne_eqb k x r.1) h)
 
 -- a test holds at each number of the range of the n numbers from `low` on, less the numbers that have an arm of their own, because it
 -- computes to true at each of them
@@ -40,6 +40,6 @@ pub arm : (test : ℕ → Bool) (low n : ℕ) (xs : List ℕ) → all (λ j. mem
     → (k : ℕ) → low ≤ k → k < low + n → Rest xs k → test k ≡ true
 arm test low n xs t k a b r =
     let e : low + (k - low) ≡ k = omega arith in
-    unless-single xs k (test k) r
+    unless_single xs k (test k) r
     (subst (λ (m : ℕ). member m xs || test m ≡ true) e
     (below (λ j. member (low + j) xs || test (low + j)) n t (k - low) (omega arith)))

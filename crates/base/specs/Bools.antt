@@ -21,13 +21,13 @@ and_right false b h = clash h refl
 pub and_both : (a b : Bool) → a ≡ true → b ≡ true → a && b ≡ true
 and_both a b p q = rw (p, q)
 
-pub and-false : (a : Bool) → a && false ≡ false
-and-false true = refl
-and-false false = refl
+pub and_false : (a : Bool) → a && false ≡ false
+and_false true = refl
+and_false false = refl
 
-pub and-true : (a : Bool) → a && true ≡ a
-and-true true = refl
-and-true false = refl
+pub and_true : (a : Bool) → a && true ≡ a
+and_true true = refl
+and_true false = refl
 
 pub or_left_false : (a b : Bool) → a || b ≡ false → a ≡ false
 or_left_false true b h = h
@@ -37,13 +37,13 @@ pub or_right_false : (a b : Bool) → a || b ≡ false → b ≡ false
 or_right_false true b h = clash refl h
 or_right_false false b h = h
 
-pub or-both-false : (a b : Bool) → a ≡ false → b ≡ false → a || b ≡ false
-or-both-false a b p q = rw (p, q)
+pub or_both_false : (a b : Bool) → a ≡ false → b ≡ false → a || b ≡ false
+or_both_false a b p q = rw (p, q)
 
-pub not-true : (a : Bool) → not a ≡ true → a ≡ false
-not-true true h = sym h
-not-true false h = refl
+pub not_true : (a : Bool) → not a ≡ true → a ≡ false
+not_true true h = sym h
+not_true false h = refl
 
-pub not-false : (a : Bool) → not a ≡ false → a ≡ true
-not-false true h = refl
-not-false false h = sym h
+pub not_false : (a : Bool) → not a ≡ false → a ≡ true
+not_false true h = refl
+not_false false h = sym h

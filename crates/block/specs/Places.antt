@@ -1,12 +1,12 @@
 -- Places found in a value: how far it is to the first place where a test of what follows holds, and what a walk towards it keeps.
 use Rattle.std.specs.Prelude.{◌≡◌, refl, Bool, true, false, not, ◌||◌, List, [], ◌∷◌, ℕ, zero, suc, ◌+◌, ◌-◌, ◌≤◌, ◌<◌, eqb, length, take, drop, get_or}
 use Rattle.std.proofs.Common.{sym, ◌∙◌, arith, length-drop, drop_of_length-le, drop-drop}
-use Rattle.std.proofs.Math.Bool.{or-false, or_assoc}
+use Rattle.std.proofs.Math.Bool.{or_false, or_assoc}
 use Rattle.base.specs.Bools.{clash, or_left_false, or_right_false}
-use Rattle.meaning.specs.Ascii.{if◌then◌else◌, lineFeed, carriageReturn}
-use Rattle.meaning.specs.Settings.{isBlank}
+use Rattle.meaning.specs.Ascii.{if◌then◌else◌, line_feed, carriage_return}
+use Rattle.meaning.specs.Settings.{is_blank}
 use Rattle.meaning.specs.Block.{has}
-use Rattle.pen.specs.Lists.{drop-one}
+use Rattle.pen.specs.Lists.{drop_one}
 
 -- how many bytes stand before the first place where the test holds; all, where it holds nowhere
 unfoldable pub up_to : (List ℕ → Bool) → List ℕ → ℕ
@@ -14,24 +14,24 @@ up_to t [] = 0
 up_to t (b ∷ v) = let n = suc (up_to t v) in if t (b ∷ v) then 0 else n
 
 -- a test of the byte at the front
-abbrev pub byteThat : (ℕ → Bool) → List ℕ → Bool
-byteThat p [] = false
-byteThat p (b ∷ v) = p b
+abbrev pub byte_that : (ℕ → Bool) → List ℕ → Bool
+byte_that p [] = false
+byte_that p (b ∷ v) = p b
 
 -- tests of a byte: it is a; it is a or c
 abbrev pub is : ℕ → ℕ → Bool
 is a b = eqb b a
 
-abbrev pub isEither : ℕ → ℕ → ℕ → Bool
-isEither a c b = eqb b a || eqb b c
+abbrev pub is_either : ℕ → ℕ → ℕ → Bool
+is_either a c b = eqb b a || eqb b c
 
 -- LF or CR
-abbrev pub isLineEnd : ℕ → Bool
-isLineEnd = isEither lineFeed carriageReturn
+abbrev pub is_line_end : ℕ → Bool
+is_line_end = is_either line_feed carriage_return
 
 -- neither a space nor a tab
-abbrev pub isText : ℕ → Bool
-isText b = not (isBlank b)
+abbrev pub is_text : ℕ → Bool
+is_text b = not (is_blank b)
 
 -- r is the first place from i on where the test holds, or the end
 pub record First (t : List ℕ → Bool) (v : List ℕ) (i r : ℕ) : Type 0 where
@@ -44,8 +44,8 @@ pub record Clear (t : List ℕ → Bool) (v : List ℕ) (i j : ℕ) : Type 0 whe
   pub clear : j ≤ i + up_to t (drop i v)
   pub within : j ≤ length v
 
-pub byte_at : (p : ℕ → Bool) (v : List ℕ) (i : ℕ) → i < length v → byteThat p (drop i v) ≡ p (get_or v i 0)
-byte_at p v i h = rw (drop-one v i h)
+pub byte_at : (p : ℕ → Bool) (v : List ℕ) (i : ℕ) → i < length v → byte_that p (drop i v) ≡ p (get_or v i 0)
+byte_at p v i h = rw (drop_one v i h)
 
 -- ---- distances
 
@@ -62,10 +62,10 @@ nearer t (suc n) (b ∷ v) h = go (t (b ∷ v)) h (nearer t n v)
     go false h ih = omega (arith, ih (omega arith))
 
 -- a test that asks for more holds no sooner
-no-sooner : (t u : List ℕ → Bool) → ((w : List ℕ) → t w ≡ false → u w ≡ false) → (v : List ℕ) → up_to t v ≤ up_to u v
+no_sooner : (t u : List ℕ → Bool) → ((w : List ℕ) → t w ≡ false → u w ≡ false) → (v : List ℕ) → up_to t v ≤ up_to u v
 unfolding up_to
-no-sooner t u f [] = omega arith
-no-sooner t u f (b ∷ v) = go (t (b ∷ v)) (u (b ∷ v)) refl refl (no-sooner t u f v)
+no_sooner t u f [] = omega arith
+no_sooner t u f (b ∷ v) = go (t (b ∷ v)) (u (b ∷ v)) refl refl (no_sooner t u f v)
   where
     go : (x y : Bool) → t (b ∷ v) ≡ x → u (b ∷ v) ≡ y → up_to t v ≤ up_to u v
         → (if x then 0 else suc (up_to t v)) ≤ (if y then 0 else suc (up_to u v))
@@ -84,23 +84,23 @@ miss t b v e = rw e
 nothing_left : (t : List ℕ → Bool) (v : List ℕ) (i : ℕ) → length v ≤ i → up_to t (drop i v) ≡ 0
 nothing_left t v i h = rw (drop_of_length-le v h) (unfold up_to in refl)
 
-neither-in-part : (a c n : ℕ) (v : List ℕ) → n ≤ length v → has a (take n v) ≡ false → has c (take n v) ≡ false
-    → n ≤ up_to (byteThat (isEither a c)) v
+neither_in_part : (a c n : ℕ) (v : List ℕ) → n ≤ length v → has a (take n v) ≡ false → has c (take n v) ≡ false
+    → n ≤ up_to (byte_that (is_either a c)) v
 unfolding up_to has
-neither-in-part a c zero v h p q = omega arith
-neither-in-part a c (suc n) [] h p q = absurd (omega arith)
-neither-in-part a c (suc n) (b ∷ v) h p q =
+neither_in_part a c zero v h p q = omega arith
+neither_in_part a c (suc n) [] h p q = absurd (omega arith)
+neither_in_part a c (suc n) (b ∷ v) h p q =
     rw (or_left_false (eqb b a) (has a (take n v)) p, or_left_false (eqb b c) (has c (take n v)) q)
     (omega (
       arith,
-      neither-in-part a c n v (omega arith) (or_right_false (eqb b a) (has a (take n v)) p)
+      neither_in_part a c n v (omega arith) (or_right_false (eqb b a) (has a (take n v)) p)
           (or_right_false (eqb b c) (has c (take n v)) q),
     ))
 
-holds-there : (t : List ℕ → Bool) (v : List ℕ) → up_to t v < length v → t (drop (up_to t v) v) ≡ true
+holds_there : (t : List ℕ → Bool) (v : List ℕ) → up_to t v < length v → t (drop (up_to t v) v) ≡ true
 unfolding up_to
-holds-there t [] h = absurd (omega arith)
-holds-there t (b ∷ v) h = go (t (b ∷ v)) refl h (holds-there t v)
+holds_there t [] h = absurd (omega arith)
+holds_there t (b ∷ v) h = go (t (b ∷ v)) refl h (holds_there t v)
   where
     go : (x : Bool) → t (b ∷ v) ≡ x → (if x then 0 else suc (up_to t v)) < length (b ∷ v)
         → (up_to t v < length v → t (drop (up_to t v) v) ≡ true)
@@ -111,8 +111,8 @@ holds-there t (b ∷ v) h = go (t (b ∷ v)) refl h (holds-there t v)
 -- ---- walks
 
 module _ {t : List ℕ → Bool} {v : List ℕ} where
-  pub clear-at-first : {i : ℕ} → i ≤ length v → Clear t v i i
-  clear-at-first h = record { forward = omega arith; clear = omega arith; within = h }
+  pub clear_at_first : {i : ℕ} → i ≤ length v → Clear t v i i
+  clear_at_first h = record { forward = omega arith; clear = omega arith; within = h }
 
   -- the place that is looked for is as far as it was
   same_place : {i j : ℕ} → Clear t v i j → i + up_to t (drop i v) ≡ j + up_to t (drop j v)
@@ -123,59 +123,59 @@ module _ {t : List ℕ → Bool} {v : List ℕ} where
       let f : up_to t (drop i v) ≡ n + up_to t (drop j v) = rw e at (nearer t n (drop i v) (omega (arith, c.clear, c.forward))) in
       omega (arith, m, f)
 
-  pub clear-on : {i j k : ℕ} → Clear t v i j → Clear t v j k → Clear t v i k
-  clear-on c d =
+  pub clear_on : {i j k : ℕ} → Clear t v i j → Clear t v j k → Clear t v i k
+  clear_on c d =
       record {
         forward = omega (arith, c.forward, d.forward);
         clear = omega (arith, same_place c, d.clear);
         within = d.within;
       }
 
-  pub clear-one : {j : ℕ} → j < length v → t (drop j v) ≡ false → Clear t v j (j + 1)
-  clear-one {j} h e =
-      let d = drop-one v j h in
+  pub clear_one : {j : ℕ} → j < length v → t (drop j v) ≡ false → Clear t v j (j + 1)
+  clear_one {j} h e =
+      let d = drop_one v j h in
       let m : up_to t (drop j v) ≡ suc (up_to t (drop (j + 1) v)) = rw d (miss t (get_or v j 0) (drop (j + 1) v) (rw d at e)) in
       record { forward = omega arith; clear = omega (arith, m); within = omega arith }
 
-  pub clear-before : {i r : ℕ} → First t v i r → Clear t v i r
-  clear-before f = record { forward = omega (arith, f.here); clear = omega (arith, f.here); within = f.within }
+  pub clear_before : {i r : ℕ} → First t v i r → Clear t v i r
+  clear_before f = record { forward = omega (arith, f.here); clear = omega (arith, f.here); within = f.within }
 
   pub found : {i j : ℕ} → Clear t v i j → j < length v → t (drop j v) ≡ true → First t v i j
   found {i} {j} c h e =
-      let d = drop-one v j h in
+      let d = drop_one v j h in
       let m : up_to t (drop j v) ≡ 0 = rw d (hit t (get_or v j 0) (drop (j + 1) v) (rw d at e)) in
       record { here = omega (arith, same_place c, m); within = c.within }
 
   pub found_nowhere : {i j : ℕ} → Clear t v i j → length v ≤ j → First t v i j
   found_nowhere {i} {j} c h = record { here = omega (arith, same_place c, nothing_left t v j h); within = c.within }
 
-  pub before-end : {i r : ℕ} → First t v i r → (r ≡ length v → ⊥) → r < length v
-  before-end f n = omega (arith, f.within)
+  pub before_end : {i r : ℕ} → First t v i r → (r ≡ length v → ⊥) → r < length v
+  before_end f n = omega (arith, f.within)
 
-  pub found-holds : {i r : ℕ} → First t v i r → r < length v → t (drop r v) ≡ true
-  found-holds {i} {r} f h =
+  pub found_holds : {i r : ℕ} → First t v i r → r < length v → t (drop r v) ≡ true
+  found_holds {i} {r} f h =
       let d : drop r v ≡ drop (up_to t (drop i v)) (drop i v) = rw (f.here, drop-drop (up_to t (drop i v)) i v) in
-      rw d (holds-there t (drop i v) (omega (arith, f.here, length-drop i v)))
+      rw d (holds_there t (drop i v) (omega (arith, f.here, length-drop i v)))
 
 -- where a test asks for more
-pub clear-for : {t u : List ℕ → Bool} {v : List ℕ} {i j : ℕ} → ((w : List ℕ) → t w ≡ false → u w ≡ false) → Clear t v i j
+pub clear_for : {t u : List ℕ → Bool} {v : List ℕ} {i j : ℕ} → ((w : List ℕ) → t w ≡ false → u w ≡ false) → Clear t v i j
     → Clear u v i j
-clear-for {t} {u} {v} {i} f c =
-    record { forward = c.forward; clear = omega (arith, c.clear, no-sooner t u f (drop i v)); within = c.within }
+clear_for {t} {u} {v} {i} f c =
+    record { forward = c.forward; clear = omega (arith, c.clear, no_sooner t u f (drop i v)); within = c.within }
 
 -- a part without either byte
-pub clear-part : (a c : ℕ) {v : List ℕ} {j e : ℕ} → j ≤ e → e ≤ length v → has a (take (e - j) (drop j v)) ≡ false
-    → has c (take (e - j) (drop j v)) ≡ false → Clear (byteThat (isEither a c)) v j e
-clear-part a c {v} {j} {e} f w p q =
+pub clear_part : (a c : ℕ) {v : List ℕ} {j e : ℕ} → j ≤ e → e ≤ length v → has a (take (e - j) (drop j v)) ≡ false
+    → has c (take (e - j) (drop j v)) ≡ false → Clear (byte_that (is_either a c)) v j e
+clear_part a c {v} {j} {e} f w p q =
     record {
       forward = f;
-      clear = omega (arith, neither-in-part a c (e - j) (drop j v) (omega (arith, length-drop j v)) p q);
+      clear = omega (arith, neither_in_part a c (e - j) (drop j v) (omega (arith, length-drop j v)) p q);
       within = w;
     }
 
-pub is-either : (a : ℕ) (w : List ℕ) → byteThat (isEither a a) w ≡ false → byteThat (is a) w ≡ false
-is-either a [] h = refl
-is-either a (b ∷ w) h = or_left_false (eqb b a) (eqb b a) h
+pub is_either_lem : (a : ℕ) (w : List ℕ) → byte_that (is_either a a) w ≡ false → byte_that (is a) w ≡ false
+is_either_lem a [] h = refl
+is_either_lem a (b ∷ w) h = or_left_false (eqb b a) (eqb b a) h
 
 -- ---- a byte among others
 
@@ -192,10 +192,10 @@ pub seen_one : {c : ℕ} {v : List ℕ} {i : ℕ} {seen : Bool} → Seen c v i s
 unfolding has
 seen_one {c} {v} {i} {seen} s h =
     record {
-      all = or_assoc seen (eqb (get_or v i 0) c) (has c (drop (i + 1) v)) ∙ rw (drop-one v i h) at s.all;
+      all = or_assoc seen (eqb (get_or v i 0) c) (has c (drop (i + 1) v)) ∙ rw (drop_one v i h) at s.all;
       within = omega arith;
     }
 
 pub seen_all : {c : ℕ} {v : List ℕ} {i : ℕ} {seen : Bool} → Seen c v i seen → length v ≤ i → seen ≡ has c v
 unfolding has
-seen_all {c} {v} {i} {seen} s h = sym (or-false seen) ∙ rw (drop_of_length-le v h) at s.all
+seen_all {c} {v} {i} {seen} s h = sym (or_false seen) ∙ rw (drop_of_length-le v h) at s.all

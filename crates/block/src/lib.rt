@@ -1,10 +1,10 @@
 // Block strings: whether a value can be written as one, and its text.
 ghost use Rattle.std.specs.Prelude.{◌≡◌, ◌∷◌, ◌≤◌, length, drop};
-ghost use Rattle.meaning.specs.Ascii.{lineFeed};
+ghost use Rattle.meaning.specs.Ascii.{line_feed};
 ghost use Rattle.meaning.specs.Settings.{times};
-ghost use Rattle.meaning.specs.Block.{has, canBeBlockString, multiLine, threeQuotes, escapedLine, lines, block_line, block_lines, blockString};
+ghost use Rattle.meaning.specs.Block.{has, can_be_block_string, multi_line, three_quotes, escaped_line, lines, block_line, block_lines, block_string};
 ghost use Rattle.pen.specs.Wrote.{Wrote};
-ghost use Rattle.block.specs.Places.{First, Clear, byteThat, is, isEither, isLineEnd, isText};
+ghost use Rattle.block.specs.Places.{First, Clear, byte_that, is, is_either, is_line_end, is_text};
 ghost use Rattle.block.specs.Text.{between};
 
 use pen::Pen;
@@ -29,7 +29,7 @@ fn contains(bytes: &[u8], byte: u8) -> bool
 // Some place up to which there is no `a` and no `b` from `from` on: sixteen bytes further at a time, while neither is among them.
 fn skip_without(value: &[u8], from: usize, a: u8, b: u8) -> usize
     requires { from ≤ length value.now }
-    ensures { Clear (byteThat (isEither a b)) value.now from result }
+    ensures { Clear (byte_that (is_either a b)) value.now from result }
 {
     let mut i = from;
     while 16 <= value.len() - i {
@@ -48,7 +48,7 @@ fn skip_without(value: &[u8], from: usize, a: u8, b: u8) -> usize
 // The first `byte` from `from` on, or the end.
 fn find(value: &[u8], from: usize, byte: u8) -> usize
     requires { from ≤ length value.now }
-    ensures { First (byteThat (is byte)) value.now from result }
+    ensures { First (byte_that (is byte)) value.now from result }
 {
     let mut i = skip_without(value, from, byte, byte);
     while i < value.len() {
@@ -63,7 +63,7 @@ fn find(value: &[u8], from: usize, byte: u8) -> usize
 // The first LF or CR from `from` on, or the end.
 fn find_line_end(value: &[u8], from: usize) -> usize
     requires { from ≤ length value.now }
-    ensures { First (byteThat isLineEnd) value.now from result }
+    ensures { First (byte_that is_line_end) value.now from result }
 {
     let mut i = skip_without(value, from, b'\n', b'\r');
     while i < value.len() {
@@ -82,7 +82,7 @@ fn find_line_end(value: &[u8], from: usize) -> usize
 // The first byte from `from` on that is neither space nor tab, or the end.
 fn skip_whitespace(value: &[u8], from: usize) -> usize
     requires { from ≤ length value.now }
-    ensures { First (byteThat isText) value.now from result }
+    ensures { First (byte_that is_text) value.now from result }
 {
     let mut i = from;
     while i < value.len() {
@@ -97,7 +97,7 @@ fn skip_whitespace(value: &[u8], from: usize) -> usize
 // Whether a block string can have this value: no CR, first and last line not blank, and some line begins with text, since an indent
 // that all lines share would not be read back. One pass.
 pub fn can_be_block_string(value: &[u8]) -> bool
-    ensures { result ≡ canBeBlockString value.now }
+    ensures { result ≡ can_be_block_string value.now }
 {
     let mut unindented = false;
     let mut from = 0;
@@ -120,14 +120,14 @@ pub fn can_be_block_string(value: &[u8]) -> bool
 }
 
 pub fn contains_newline(value: &[u8]) -> bool
-    ensures { result ≡ has lineFeed value.now }
+    ensures { result ≡ has line_feed value.now }
 {
     contains(value, b'\n')
 }
 
 // Whether the text takes several lines: LF, over 70 bytes, or a quote or a backslash at the end, which would run into the quotes.
 fn multi_line(value: &[u8]) -> bool
-    ensures { result ≡ multiLine value.now }
+    ensures { result ≡ multi_line value.now }
 {
     let n = value.len();
     if n > 70 {
@@ -148,7 +148,7 @@ fn multi_line(value: &[u8]) -> bool
 // The first three quotes from `from` on, or the end.
 fn find_triple_quote(line: &[u8], from: usize) -> usize
     requires { from ≤ length line.now }
-    ensures { First threeQuotes line.now from result }
+    ensures { First three_quotes line.now from result }
 {
     let mut i = from;
     loop {
@@ -165,7 +165,7 @@ fn find_triple_quote(line: &[u8], from: usize) -> usize
 
 // The bytes of a line, with a backslash before each three quotes.
 fn serialize_line(line: &[u8], out: &mut [u8], pen: Pen) -> Pen
-    ensures { Wrote out.old pen (escapedLine line.now) out.new result }
+    ensures { Wrote out.old pen (escaped_line line.now) out.new result }
 {
     let mut p = pen;
     let mut from = 0;
@@ -182,7 +182,7 @@ fn serialize_line(line: &[u8], out: &mut [u8], pen: Pen) -> Pen
 
 // A line break: LF, then the prefix once per level.
 fn new_line(prefix: &[u8], level: usize, out: &mut [u8], pen: Pen) -> Pen
-    ensures { Wrote out.old pen (lineFeed ∷ times level prefix.now) out.new result }
+    ensures { Wrote out.old pen (line_feed ∷ times level prefix.now) out.new result }
 {
     let p = pen::write_byte(out, pen, b'\n');
     pen::write_times(out, p, prefix, level)
@@ -238,7 +238,7 @@ pub fn write_block_string(
     pen: Pen,
 ) -> Pen
     ensures { Wrote out.old pen
-        (blockString (times level prefix.now) value.now) out.new result }
+        (block_string (times level prefix.now) value.now) out.new result }
 {
     let p = pen::write(out, pen, &TRIPLE_QUOTE);
     let q = write_between(value, prefix, level, out, p);

@@ -1,9 +1,9 @@
 // Any table gets an answer: refusals 2 to 7 of document 01, the lowest number first, at the smallest node.
 ghost use Rattle.std.specs.Prelude.{◌≡◌};
 ghost use Rattle.meaning.specs.Settings.{settings};
-ghost use Rattle.meaning.specs.Refusals.{sizeFault, lowestFrom};
-ghost use Rattle.meaning.specs.Answers.{checkedAnswer};
-ghost use Rattle.meaning.specs.Entries.{verdictAnswer, checkedTable, checkedDocument};
+ghost use Rattle.meaning.specs.Refusals.{size_fault, lowest_from};
+ghost use Rattle.meaning.specs.Answers.{checked_answer};
+ghost use Rattle.meaning.specs.Entries.{verdict_answer, checked_table, checked_document};
 ghost use Rattle.nodes.specs.Counted.{Counted};
 ghost use Rattle.check_table.specs.Stages.{Ready};
 
@@ -16,7 +16,7 @@ const LARGEST_POOL: usize = 65536;
 const DOCUMENT_LEVELS: usize = 64;
 
 fn size_fault(words: &[u32], pool: &[u8]) -> bool
-    ensures { result ≡ sizeFault words.now pool.now }
+    ensures { result ≡ size_fault words.now pool.now }
 {
     if words.len() % WORDS_PER_NODE != 0 {
         return true;
@@ -33,7 +33,7 @@ fn size_fault(words: &[u32], pool: &[u8]) -> bool
 
 fn from_texts(words: &[u32], pool: &[u8], n: usize) -> meaning::Checked
     requires { Ready words.now pool.now n }
-    ensures { checkedAnswer result ≡ verdictAnswer (lowestFrom 1 7 words.now pool.now) }
+    ensures { checked_answer result ≡ verdict_answer (lowest_from 1 7 words.now pool.now) }
 {
     let at = texts::first_text_fault(words, pool, n);
     if at.0 < n {
@@ -44,7 +44,7 @@ fn from_texts(words: &[u32], pool: &[u8], n: usize) -> meaning::Checked
 
 fn from_children(words: &[u32], pool: &[u8], n: usize) -> meaning::Checked
     requires { Ready words.now pool.now n }
-    ensures { checkedAnswer result ≡ verdictAnswer (lowestFrom 2 6 words.now pool.now) }
+    ensures { checked_answer result ≡ verdict_answer (lowest_from 2 6 words.now pool.now) }
 {
     let at = children::first_children_fault(words, n);
     if at.0 < n {
@@ -55,7 +55,7 @@ fn from_children(words: &[u32], pool: &[u8], n: usize) -> meaning::Checked
 
 fn from_depth(words: &[u32], pool: &[u8], n: usize) -> meaning::Checked
     requires { Ready words.now pool.now n }
-    ensures { checkedAnswer result ≡ verdictAnswer (lowestFrom 3 5 words.now pool.now) }
+    ensures { checked_answer result ≡ verdict_answer (lowest_from 3 5 words.now pool.now) }
 {
     let at = depth::first_depth_fault(words, n);
     if at.0 < n {
@@ -66,7 +66,7 @@ fn from_depth(words: &[u32], pool: &[u8], n: usize) -> meaning::Checked
 
 fn from_nesting(words: &[u32], pool: &[u8], n: usize) -> meaning::Checked
     requires { Ready words.now pool.now n }
-    ensures { checkedAnswer result ≡ verdictAnswer (lowestFrom 4 4 words.now pool.now) }
+    ensures { checked_answer result ≡ verdict_answer (lowest_from 4 4 words.now pool.now) }
 {
     let at = nesting::first_nesting_fault(words, n);
     if at.0 < n {
@@ -77,7 +77,7 @@ fn from_nesting(words: &[u32], pool: &[u8], n: usize) -> meaning::Checked
 
 fn from_nodes(words: &[u32], pool: &[u8], n: usize) -> meaning::Checked
     requires { Counted words.now n }
-    ensures { checkedAnswer result ≡ verdictAnswer (lowestFrom 5 3 words.now pool.now) }
+    ensures { checked_answer result ≡ verdict_answer (lowest_from 5 3 words.now pool.now) }
 {
     let at = nodes::first_node_fault(words, pool, n);
     if at.0 < n {
@@ -88,7 +88,7 @@ fn from_nodes(words: &[u32], pool: &[u8], n: usize) -> meaning::Checked
 
 // Accepted, or the lowest refusal at its smallest node.
 pub fn check_table(words: &[u32], pool: &[u8]) -> meaning::Checked
-    ensures { checkedAnswer result ≡ checkedTable words.now pool.now }
+    ensures { checked_answer result ≡ checked_table words.now pool.now }
 {
     if size_fault(words, pool) {
         return meaning::Checked::Refused(meaning::Refusal::Size);
@@ -104,7 +104,7 @@ pub fn check_document(
     words: &[u32],
     pool: &[u8],
 ) -> meaning::Checked
-    ensures { checkedAnswer result ≡ checkedDocument (settings breaks prefix.now level) words.now pool.now }
+    ensures { checked_answer result ≡ checked_document (settings breaks prefix.now level) words.now pool.now }
 {
     if settings::settings_fault(DOCUMENT_LEVELS, breaks, prefix, level) {
         return meaning::Checked::Refused(meaning::Refusal::Settings);

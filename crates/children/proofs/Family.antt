@@ -8,13 +8,13 @@ use native.Mathlib.Omega.{arith}
 use native.Mathlib.Decide.{dec_le}
 use lib.Dec.{leb}
 use borrow.Author.Tests.{lt-ltb, le-ltb, le-leb, lt-leb}
-use Rattle.meaning.specs.Table.{kind_at, variant_at, end_at, siblings, childrenAt}
-use Rattle.meaning.specs.Refusals.{nodeIn, is_empty, isExtension, notAsListed}
+use Rattle.meaning.specs.Table.{kind_at, variant_at, end_at, siblings, children_at}
+use Rattle.meaning.specs.Refusals.{node_in, is_empty, is_extension, not_as_listed}
 use Rattle.children.specs.Shaped.{Nodes, Shaped, from}
 use Rattle.children.specs.Walk.{done, fills}
 use Rattle.children.specs.States.{state_of, Goes}
-use Rattle.children.proofs.Walk.{fills-more, fills-end}
-use Rattle.children.proofs.Rules.{own-state}
+use Rattle.children.proofs.Walk.{fills_more, fills_end}
+use Rattle.children.proofs.Rules.{own_state}
 
 module _ (w : List ℕ) (e : ℕ) where
   none : (f c : ℕ) → e ≤ c → siblings f w c e ≡ []
@@ -53,13 +53,13 @@ module _ (w : List ℕ) (e : ℕ) where
         ∙ ap (λ (ks : List ℕ). c ∷ ks) (enough (e - c) (e - end_at w c) (end_at w c) (omega arith) (le_refl (e - end_at w c)))
 
 module _ (w : List ℕ) (i : ℕ) (onward : (k : ℕ) → k < end_at w i → k < end_at w k) where
-  pub children-from : childrenAt w i ≡ from w (i + 1) (end_at w i)
-  unfolding childrenAt from
-  children-from = enough w (end_at w i) onward (end_at w i - i) (end_at w i - (i + 1)) (i + 1) (omega arith) (le_refl (end_at w i - (i + 1)))
+  pub children_from : children_at w i ≡ from w (i + 1) (end_at w i)
+  unfolding children_at from
+  children_from = enough w (end_at w i) onward (end_at w i - i) (end_at w i - (i + 1)) (i + 1) (omega arith) (le_refl (end_at w i - (i + 1)))
 
   -- a node has no child exactly if it ends at the node after it
-  pub no-children : is_empty (childrenAt w i) ≡ leb (end_at w i) (i + 1)
-  no-children = ap is_empty children-from ∙ go (dec_le (end_at w i) (i + 1))
+  pub no_children : is_empty (children_at w i) ≡ leb (end_at w i) (i + 1)
+  no_children = ap is_empty children_from ∙ go (dec_le (end_at w i) (i + 1))
     where
       go : Dec (end_at w i ≤ i + 1) → is_empty (from w (i + 1) (end_at w i)) ≡ leb (end_at w i) (i + 1)
       go (yes l) = rw (from_end w (end_at w i) (i + 1) l, le-leb (end_at w i) (i + 1) l)
@@ -70,13 +70,13 @@ module _ (w : List ℕ) (i : ℕ) (onward : (k : ℕ) → k < end_at w i → k <
 -- node c, of the kind k and the variant v, leads from the state p to q, and ends at d
 pub walk_step : (w : List ℕ) (e p c k v q d : ℕ) {b : Bool} → ((k : ℕ) → k < e → k < end_at w k) → c < e
     → k ≡ kind_at w c → v ≡ variant_at w c → d ≡ end_at w c → Goes p k v q
-    → fills (nodeIn w) (state_of p) (from w c e) ≡ b → fills (nodeIn w) (state_of q) (from w d e) ≡ b
-unfolding nodeIn
+    → fills (node_in w) (state_of p) (from w c e) ≡ b → fills (node_in w) (state_of q) (from w d e) ≡ b
+unfolding node_in
 walk_step w e p c k v q d onward l ek ev ed g h =
-    rw (ed, g.is, ek, ev) (sym (fills-more (nodeIn w) (state_of p) c (from w (end_at w c) e)) ∙ rw (← from_more w e onward c l) h)
+    rw (ed, g.is, ek, ev) (sym (fills_more (node_in w) (state_of p) c (from w (end_at w c) e)) ∙ rw (← from_more w e onward c l) h)
 
-pub walk_end : (w : List ℕ) (e p c : ℕ) {b : Bool} → e ≤ c → fills (nodeIn w) (state_of p) (from w c e) ≡ b → done (state_of p) ≡ b
-walk_end w e p c l h = sym (fills-end (nodeIn w) (state_of p)) ∙ rw (← from_end w e c l) h
+pub walk_end : (w : List ℕ) (e p c : ℕ) {b : Bool} → e ≤ c → fills (node_in w) (state_of p) (from w c e) ≡ b → done (state_of p) ≡ b
+walk_end w e p c l h = sym (fills_end (node_in w) (state_of p)) ∙ rw (← from_end w e c l) h
 
 -- ---- one node
 
@@ -85,8 +85,8 @@ fewer s l = record { words = omega arith; few = omega arith; known = λ k h. s.k
 
 -- whether the children are as listed, by whether the walk from the kind's own state fits
 pub listed : (w : List ℕ) (n i k e : ℕ) {f : Bool} → Shaped w n → i < n → k ≡ kind_at w i → e ≡ end_at w i
-    → f ≡ fills (nodeIn w) (state_of (k + 1)) (from w (i + 1) e) → not f || (isExtension k && leb e (i + 1)) ≡ notAsListed w i
-unfolding notAsListed
+    → f ≡ fills (node_in w) (state_of (k + 1)) (from w (i + 1) e) → not f || (is_extension k && leb e (i + 1)) ≡ not_as_listed w i
+unfolding not_as_listed
 listed w n i k e s l ek ee ef =
     let onward = (fewer s.nodes (s.within i l)).onward in
-    rw (ef, ek, ee, own-state (kind_at w i) (s.nodes.known i l), no-children w i onward, children-from w i onward)
+    rw (ef, ek, ee, own_state (kind_at w i) (s.nodes.known i l), no_children w i onward, children_from w i onward)

@@ -2,9 +2,9 @@
 use Prim.Native.Nat.{ℕ}
 use mathlib.Core.Path.{refl}
 use mathlib.Core.List.{List, [], ◌∷◌}
-use Rattle.meaning.specs.Children.{isIn}
-use Rattle.children.specs.States.{state_of, columnOf, Right}
-use Rattle.children.proofs.Rules.{right-table}
+use Rattle.meaning.specs.Children.{is_in}
+use Rattle.children.specs.States.{state_of, column_of, Right}
+use Rattle.children.proofs.Rules.{right_table}
 
 -- the numbers of src/states.rt, a state to a line
 unfoldable pub table : List ℕ
@@ -71,6 +71,6 @@ table =
     ∷ 0 ∷ 0 ∷ 0 ∷ 58 ∷ 59 ∷ 0 ∷ 0 ∷ 0 ∷ 0 ∷ 0 ∷ 0 ∷ 0 ∷ 0 ∷ 46 ∷ 0 ∷ 0 ∷ 0 ∷ 0 ∷ 0 ∷ 1
     ∷ []
 
-pub table-right : Right table
-unfolding isIn state_of columnOf table
-table-right = right-table table refl
+pub table_right : Right table
+unfolding is_in state_of column_of table
+table_right = right_table table refl

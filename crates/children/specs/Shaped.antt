@@ -1,11 +1,11 @@
 -- What refusals 2 and 3 leave of a table; the children from a node on.
 use Rattle.std.specs.Prelude.{List, ℕ, ◌-◌, ◌*◌, ◌≤◌, ◌<◌, length}
 use Rattle.meaning.specs.Kind
-use Rattle.meaning.specs.Table.{wordsPerNode, kind_at, end_at, siblings}
+use Rattle.meaning.specs.Table.{words_per_node, kind_at, end_at, siblings}
 
 -- the first n nodes are words of the table, of known kinds, and each ends after it starts
 pub record Nodes (w : List ℕ) (n : ℕ) : Type 0 where
-  pub words : n * wordsPerNode ≤ length w
+  pub words : n * words_per_node ≤ length w
   pub few : n < 8193
   pub known : (k : ℕ) → k < n → kind_at w k < Kind.count
   pub onward : (k : ℕ) → k < n → k < end_at w k

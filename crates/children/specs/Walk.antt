@@ -21,16 +21,16 @@ after is stuck = stuck
 after is (left ss) = advance is ss
 
 -- no more children are wanted
-abbrev pub mayEnd : List Slot → Bool
-mayEnd [] = true
-mayEnd (one c ∷ ss) = false
-mayEnd (opt c ∷ ss) = mayEnd ss
-mayEnd (any c ∷ ss) = mayEnd ss
-mayEnd (some c ∷ ss) = false
+abbrev pub may_end : List Slot → Bool
+may_end [] = true
+may_end (one c ∷ ss) = false
+may_end (opt c ∷ ss) = may_end ss
+may_end (any c ∷ ss) = may_end ss
+may_end (some c ∷ ss) = false
 
 abbrev pub done : Left → Bool
 done stuck = false
-done (left ss) = mayEnd ss
+done (left ss) = may_end ss
 
 -- the children fill what is left
 abbrev pub fills : {X : Type 0} → (Class → X → Bool) → Left → List X → Bool

@@ -4,11 +4,11 @@ mod states;
 ghost use Rattle.std.specs.Prelude.{◌≡◌, ◌&&◌, ◌+◌, ◌<◌, leb, ltb, length};
 ghost use Rattle.meaning.specs.Kind;
 ghost use Rattle.meaning.specs.First.{first};
-ghost use Rattle.meaning.specs.Refusals.{isExtension, isConstant, nodeIn, notAsListed, childrenFault};
+ghost use Rattle.meaning.specs.Refusals.{is_extension, is_constant, node_in, not_as_listed, children_fault};
 ghost use Rattle.children.specs.Shaped.{Nodes, Shaped, from};
 ghost use Rattle.children.specs.Walk.{fills, done};
-ghost use Rattle.children.specs.States.{state_of, columnOf, stateCount, endColumn, Goes, Right, Columned};
-ghost use Rattle.children.specs.Reach.{inConstant, furthest};
+ghost use Rattle.children.specs.States.{state_of, column_of, state_count, end_column, Goes, Right, Columned};
+ghost use Rattle.children.specs.Reach.{in_constant, furthest};
 
 use meaning::NodeNumber;
 use states::Table;
@@ -30,7 +30,7 @@ type Columns = [u8; 45];
 // The column of a node in the table of states.
 fn column(kind: usize, variant: usize) -> usize
     requires { kind < Kind.count }
-    ensures { (result ≡ columnOf kind variant) × (result < endColumn) }
+    ensures { (result ≡ column_of kind variant) × (result < end_column) }
 {
     match kind {
         // a Document is no child; definitions; extensions
@@ -70,7 +70,7 @@ fn wide(b: u8) -> usize
 // The same as `column`.
 fn column_at(columns: &Columns, kind: usize, variant: usize) -> usize
     requires { Columned columns.now × (kind < Kind.count) }
-    ensures { (result ≡ columnOf kind variant) × (result < endColumn) }
+    ensures { (result ≡ column_of kind variant) × (result < end_column) }
 {
     let other = wide(columns[kind]);
     if kind != NAMED_TYPE {
@@ -84,7 +84,7 @@ fn column_at(columns: &Columns, kind: usize, variant: usize) -> usize
 
 // The state after a child.
 fn next_state(t: &Table, columns: &Columns, p: usize, kind: usize, variant: usize) -> usize
-    requires { Right t.now × (p < stateCount) × (kind < Kind.count) × Columned columns.now }
+    requires { Right t.now × (p < state_count) × (kind < Kind.count) × Columned columns.now }
     ensures { Goes p kind variant result }
 {
     t[p * COLUMNS + column_at(columns, kind, variant)] as usize
@@ -92,7 +92,7 @@ fn next_state(t: &Table, columns: &Columns, p: usize, kind: usize, variant: usiz
 
 // Whether the children may end in this state.
 fn may_end(t: &Table, p: usize) -> bool
-    requires { Right t.now × (p < stateCount) }
+    requires { Right t.now × (p < state_count) }
     ensures { result ≡ done (state_of p) }
 {
     t[p * COLUMNS + END_COLUMN] == 1
@@ -100,8 +100,8 @@ fn may_end(t: &Table, p: usize) -> bool
 
 // The children from `first` on, of a node that ends at `end`, fill what the state `start` leaves.
 fn fits(words: &[u32], t: &Table, columns: &Columns, start: usize, first: usize, end: usize) -> bool
-    requires { Right t.now × (start < stateCount) × Nodes words.now end × Columned columns.now }
-    ensures { result ≡ fills (nodeIn words.now) (state_of start) (from words.now first end) }
+    requires { Right t.now × (start < state_count) × Nodes words.now end × Columned columns.now }
+    ensures { result ≡ fills (node_in words.now) (state_of start) (from words.now first end) }
 {
     let mut p = start;
     let mut c = first;
@@ -117,7 +117,7 @@ fn fits(words: &[u32], t: &Table, columns: &Columns, start: usize, first: usize,
 // An extension with no child: it ends at the next node.
 fn bare(kind: usize, at: usize, end: usize) -> bool
     requires { at < 8193 }
-    ensures { result ≡ isExtension kind && leb end (at + 1) }
+    ensures { result ≡ is_extension kind && leb end (at + 1) }
 {
     match kind {
         11..=17 => end <= at + 1,
@@ -128,7 +128,7 @@ fn bare(kind: usize, at: usize, end: usize) -> bool
 // The children of one node are not as its kind lists them.
 fn not_as_listed(words: &[u32], t: &Table, columns: &Columns, n: usize, i: NodeNumber) -> bool
     requires { Right t.now × Shaped words.now n × (i.0 < n) × Columned columns.now }
-    ensures { result ≡ notAsListed words.now i.0 }
+    ensures { result ≡ not_as_listed words.now i.0 }
 {
     let at = i.0;
     let kind = table::kind(words, i);
@@ -141,7 +141,7 @@ fn not_as_listed(words: &[u32], t: &Table, columns: &Columns, n: usize, i: NodeN
 
 // The kinds below which no Variable may stand.
 fn is_constant(kind: usize) -> bool
-    ensures { result ≡ isConstant kind }
+    ensures { result ≡ is_constant kind }
 {
     match kind {
         3..=17 => true,
@@ -171,8 +171,8 @@ fn children_fault(
     reach: usize,
     i: NodeNumber,
 ) -> bool
-    requires { Right t.now × Shaped words.now n × (i.0 < n) × (inConstant words.now i.0 ≡ ltb i.0 reach) × Columned columns.now }
-    ensures { result ≡ childrenFault words.now i.0 }
+    requires { Right t.now × Shaped words.now n × (i.0 < n) × (in_constant words.now i.0 ≡ ltb i.0 reach) × Columned columns.now }
+    ensures { result ≡ children_fault words.now i.0 }
 {
     if not_as_listed(words, t, columns, n, i) {
         return true;
@@ -187,7 +187,7 @@ fn children_fault(
 // The same as `first_children_fault`, with the tables lent.
 fn first_fault(words: &[u32], t: &Table, columns: &Columns, n: usize) -> NodeNumber
     requires { Right t.now × Shaped words.now n × Columned columns.now }
-    ensures { result.0 ≡ first (childrenFault words.now) n }
+    ensures { result.0 ≡ first (children_fault words.now) n }
 {
     let mut reach: usize = 0;
     let mut i = 0;
@@ -206,7 +206,7 @@ fn first_fault(words: &[u32], t: &Table, columns: &Columns, n: usize) -> NodeNum
 // Refusal 6: the smallest node with its fault, or the number of nodes.
 pub fn first_children_fault(words: &[u32], n: usize) -> NodeNumber
     requires { Shaped words.now n }
-    ensures { result.0 ≡ first (childrenFault words.now) n }
+    ensures { result.0 ≡ first (children_fault words.now) n }
 {
     let t = states::STATES;
     let mut columns = [0u8; 45];

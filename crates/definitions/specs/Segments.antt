@@ -7,57 +7,57 @@ use Rattle.meaning.specs.Kind
 use Rattle.meaning.specs.Settings.{Settings}
 use Rattle.meaning.specs.Table.{kind_at, variant_at, length_at}
 use Rattle.meaning.specs.Children.{Class, a, selection, run, past}
-use Rattle.meaning.specs.Rules.{Part, child, separated, name, implements, directives, braces, optionalBraces, description, extend, scalar, objectLike, union, enum, inputObject, ruleOf}
-use Rattle.meaning.specs.Layout.{Child, childIn, each, partText, partRest}
+use Rattle.meaning.specs.Rules.{Part, child, separated, name, implements, directives, braces, optional_braces, description, extend, scalar, object_like, union, enum, input_object, rule_of}
+use Rattle.meaning.specs.Layout.{Child, child_in, each, part_text, part_rest}
 use Rattle.layout.specs.declared.Walk.{Walk}
-use Rattle.layout.specs.Kids.{kids, nextIs}
+use Rattle.layout.specs.Kids.{kids, next_is}
 use Rattle.layout.specs.Written.{Kept}
-use Rattle.layout.specs.Did.{Walked, walked_as, Did, did-part, allPlain, closes, closes-both, plain-close}
-use Rattle.serialize.specs.Parts.{Parts, jobs-kept, jobs-walked}
+use Rattle.layout.specs.Did.{Walked, walked_as, Did, did_part, all_plain, closes, closes_both, plain_close}
+use Rattle.serialize.specs.Parts.{Parts, jobs_kept, jobs_walked}
 
 -- what an operation and a fragment end with
 abbrev pub tail : List Part
 tail = directives ++ braces selection
 
 -- what follows `type ` and `interface `
-abbrev pub objectTail : List Part
-objectTail = name ++ implements ++ directives ++ optionalBraces (a Kind.fieldDefinition)
+abbrev pub object_tail : List Part
+object_tail = name ++ implements ++ directives ++ optional_braces (a Kind.field_definition)
 
 -- what kinds 5 to 10 share with their extensions
 abbrev pub bodies : List (List Part)
-bodies = [] ∷ [] ∷ [] ∷ [] ∷ [] ∷ scalar ∷ objectLike "type" ∷ objectLike "interface" ∷ union ∷ enum ∷ inputObject ∷ []
+bodies = [] ∷ [] ∷ [] ∷ [] ∷ [] ∷ scalar ∷ object_like "type" ∷ object_like "interface" ∷ union ∷ enum ∷ input_object ∷ []
 
 unfoldable pub body : ℕ → List Part
 body k = get_or bodies k []
 
 -- node i, which ends at e, may be shorthand: by the words alone
 unfoldable pub short_at : List ℕ → ℕ → ℕ → Bool
-unfolding kind_at variant_at length_at nextIs
-short_at w i e = eqb (kind_at w i) Kind.operation && (eqb (variant_at w i) 0 && (eqb (length_at w i) 0 && nextIs w selection (i + 1) e))
+unfolding kind_at variant_at length_at next_is
+short_at w i e = eqb (kind_at w i) Kind.operation && (eqb (variant_at w i) 0 && (eqb (length_at w i) 0 && next_is w selection (i + 1) e))
 
 -- ---- parts
 
 module _ {t w p : List ℕ} {n e d l : ℕ} {o : List ℕ} {at : Walk} {o' : List ℕ} {r : Walk} (x : Parts t w p n at.node.0 e d l) where
-  pub parts-kept : {u : List ℕ} → Kept o at u o' r → Parts t w p n r.node.0 e d l
-  parts-kept k = record { jobs = jobs-kept x.jobs k; text = x.text }
+  pub parts_kept : {u : List ℕ} → Kept o at u o' r → Parts t w p n r.node.0 e d l
+  parts_kept k = record { jobs = jobs_kept x.jobs k; text = x.text }
 
-  pub parts-walked : {u : List ℕ} {rs : List Child} → Walked w p e u rs o at o' r → Parts t w p n r.node.0 e d l
-  parts-walked k = record { jobs = jobs-walked x.jobs k; text = x.text }
+  pub parts_walked : {u : List ℕ} {rs : List Child} → Walked w p e u rs o at o' r → Parts t w p n r.node.0 e d l
+  parts_walked k = record { jobs = jobs_walked x.jobs k; text = x.text }
 
-pub did-separated : {w p : List ℕ} {s : Settings} {n e : ℕ} {d : List ℕ} {at : Walk} {d' : List ℕ} {r : Walk} {gap : List ℕ} (c : Class) (sign : List ℕ)
+pub did_separated : {w p : List ℕ} {s : Settings} {n e : ℕ} {d : List ℕ} {at : Walk} {d' : List ℕ} {r : Walk} {gap : List ℕ} (c : Class) (sign : List ℕ)
     → gap ≡ space ∷ (sign ++ space ∷ [])
-    → Walked w p e (each gap s (run childIn c (kids w p at.node.0 e))) (past childIn c (kids w p at.node.0 e)) d at d' r
+    → Walked w p e (each gap s (run child_in c (kids w p at.node.0 e))) (past child_in c (kids w p at.node.0 e)) d at d' r
     → Did w p s n e (separated sign c ∷ []) d at d' r
-unfolding partText partRest
-did-separated {w} {p} {s} {n} {e} {at = at} c sign z x =
-    did-part (separated sign c) refl (walked_as (ap (λ (g : List ℕ). each g s (run childIn c (kids w p at.node.0 e))) z) refl x)
+unfolding part_text part_rest
+did_separated {w} {p} {s} {n} {e} {at = at} c sign z x =
+    did_part (separated sign c) refl (walked_as (ap (λ (g : List ℕ). each g s (run child_in c (kids w p at.node.0 e))) z) refl x)
 
-pub did-as : {w p : List ℕ} {s : Settings} {n e : ℕ} {ps qs : List Part} {d : List ℕ} {at : Walk} {d' : List ℕ} {r : Walk} → ps ≡ qs
+pub did_as : {w p : List ℕ} {s : Settings} {n e : ℕ} {ps qs : List Part} {d : List ℕ} {at : Walk} {d' : List ℕ} {r : Walk} → ps ≡ qs
     → Did w p s n e ps d at d' r → Did w p s n e qs d at d' r
-did-as {w} {p} {s} {n} {e} {d = d} {at} {d'} {r} z x = subst (λ (y : List Part). Did w p s n e y d at d' r) z x
+did_as {w} {p} {s} {n} {e} {d = d} {at} {d'} {r} z x = subst (λ (y : List Part). Did w p s n e y d at d' r) z x
 
-pub plain-and-list-close : (sign : List ℕ) (c : Class) (ps : List Part) → allPlain ps ≡ true → closes (ps ++ (child c ++ separated sign c ∷ [])) ≡ true
-plain-and-list-close sign c ps z = closes-both ps (child c ++ separated sign c ∷ []) (plain-close ps z) refl
+pub plain_and_list_close : (sign : List ℕ) (c : Class) (ps : List Part) → all_plain ps ≡ true → closes (ps ++ (child c ++ separated sign c ∷ [])) ≡ true
+plain_and_list_close sign c ps z = closes_both ps (child c ++ separated sign c ∷ []) (plain_close ps z) refl
 
 -- ---- the rules of kinds 5 to 10 and 12 to 17
 
@@ -85,23 +85,23 @@ six f a₅ a₆ a₇ a₈ a₉ a₁₀ k l h = from₅ (dec_le k 5)
     from₅ (yes e) = let z : 5 ≡ k = omega arith in subst f z a₅
     from₅ (no n) = from₆ (dec_le k 6) (omega arith)
 
-pub described-body : (k : ℕ) → 5 ≤ k → k ≤ 10 → description ++ body k ≡ ruleOf k
-unfolding body ruleOf
-described-body = six (λ k. description ++ body k ≡ ruleOf k) refl refl refl refl refl refl
+pub described_body : (k : ℕ) → 5 ≤ k → k ≤ 10 → description ++ body k ≡ rule_of k
+unfolding body rule_of
+described_body = six (λ k. description ++ body k ≡ rule_of k) refl refl refl refl refl refl
 
-extended : (k : ℕ) → 5 ≤ k → k ≤ 10 → extend ++ body k ≡ ruleOf (k + 7)
-unfolding body ruleOf
-extended = six (λ k. extend ++ body k ≡ ruleOf (k + 7)) refl refl refl refl refl refl
+extended : (k : ℕ) → 5 ≤ k → k ≤ 10 → extend ++ body k ≡ rule_of (k + 7)
+unfolding body rule_of
+extended = six (λ k. extend ++ body k ≡ rule_of (k + 7)) refl refl refl refl refl refl
 
-pub extended-body : (k : ℕ) → 12 ≤ k → k ≤ 17 → extend ++ body (k - 7) ≡ ruleOf k
-extended-body k l h =
+pub extended_body : (k : ℕ) → 12 ≤ k → k ≤ 17 → extend ++ body (k - 7) ≡ rule_of k
+extended_body k l h =
     let e : k - 7 + 7 ≡ k = omega arith in
-    extended (k - 7) (omega arith) (omega arith) ∙ ap ruleOf e
+    extended (k - 7) (omega arith) (omega arith) ∙ ap rule_of e
 
 -- ---- what the last arm of the match on kinds has come to
 
-pub not-zero : {X : Type 0} (k : ℕ) → 1 ≤ k → k < 1 → X
-not-zero k l h = absurd (omega (arith, l, h))
+pub not_zero : {X : Type 0} (k : ℕ) → 1 ≤ k → k < 1 → X
+not_zero k l h = absurd (omega (arith, l, h))
 
-pub above-eleven : (k : ℕ) → 11 ≤ k → (k ≡ 11 → ⊥) → 12 ≤ k
-above-eleven k l n = omega (arith, l, n)
+pub above_eleven : (k : ℕ) → 11 ≤ k → (k ≡ 11 → ⊥) → 12 ≤ k
+above_eleven k l n = omega (arith, l, n)

@@ -1,17 +1,17 @@
 // The seventeen kinds of definitions and extensions, printed as serialize.rs prints them.
 ghost use Rattle.std.specs.Prelude.{◌≡◌, true, ◌&&◌, List, [], ◌∷◌, ◌++◌, ℕ, ◌+◌, ◌≤◌, ◌<◌};
 ghost use Rattle.meaning.specs.Ascii.{space};
-ghost use Rattle.meaning.specs.Table.{kind_at, treeAt};
+ghost use Rattle.meaning.specs.Table.{kind_at, tree_at};
 ghost use Rattle.meaning.specs.Children.{a};
-ghost use Rattle.meaning.specs.Rules.{Part, separated, child, optional, ruleOf};
-ghost use Rattle.meaning.specs.Layout.{definitionText};
+ghost use Rattle.meaning.specs.Rules.{Part, separated, child, optional, rule_of};
+ghost use Rattle.meaning.specs.Layout.{definition_text};
 ghost use Rattle.pen.specs.Wrote.{Wrote};
-ghost use Rattle.layout.specs.Written.{under, gapText};
+ghost use Rattle.layout.specs.Written.{under, gap_text};
 ghost use Rattle.layout.specs.Jobs.{Job, Jobs, Within};
 ghost use Rattle.table.specs.Words.{InTable};
-ghost use Rattle.layout.specs.Did.{Did, allPlain, bytes};
+ghost use Rattle.layout.specs.Did.{Did, all_plain, bytes};
 ghost use Rattle.serialize.specs.Parts.{Parts};
-ghost use Rattle.definitions.specs.Segments.{tail, objectTail, body, short_at};
+ghost use Rattle.definitions.specs.Segments.{tail, object_tail, body, short_at};
 
 use layout::{Class, Gap, State, Walk};
 use meaning::NodeNumber;
@@ -50,7 +50,7 @@ fn listed(
     at: Walk,
 ) -> Walk
     requires { Jobs table.now words.now pool.now at.node.0 to.0 depth (state.level + 1) }
-    ensures { (n : ℕ) (sign : List ℕ) → gapText gap (under state prefix.now) ≡ space ∷ (sign ++ space ∷ []) → Did words.now pool.now (under state prefix.now) n to.0 (child (a kind) ++ separated sign (a kind) ∷ []) out.old at out.new result }
+    ensures { (n : ℕ) (sign : List ℕ) → gap_text gap (under state prefix.now) ≡ space ∷ (sign ++ space ∷ []) → Did words.now pool.now (under state prefix.now) n to.0 (child (a kind) ++ separated sign (a kind) ∷ []) out.old at out.new result }
 {
     let a = serialize::one(words, pool, table, to, depth, prefix, state, out, at);
     serialize::each(
@@ -84,7 +84,7 @@ fn listed_after(
     at: Walk,
 ) -> Walk
     requires { Jobs table.now words.now pool.now at.node.0 to.0 depth (state.level + 1) }
-    ensures { (n : ℕ) (ps : List Part) (sign : List ℕ) → allPlain ps ≡ true → bytes ps ≡ before.now → gapText gap (under state prefix.now) ≡ space ∷ (sign ++ space ∷ []) → Did words.now pool.now (under state prefix.now) n to.0 (optional (a kind) (ps ++ (child (a kind) ++ separated sign (a kind) ∷ []))) out.old at out.new result }
+    ensures { (n : ℕ) (ps : List Part) (sign : List ℕ) → all_plain ps ≡ true → bytes ps ≡ before.now → gap_text gap (under state prefix.now) ≡ space ∷ (sign ++ space ∷ []) → Did words.now pool.now (under state prefix.now) n to.0 (optional (a kind) (ps ++ (child (a kind) ++ separated sign (a kind) ∷ []))) out.old at out.new result }
 {
     if layout::is_next(words, Class::Kind(kind), at.node, to) {
         let a = layout::token(out, at, before);
@@ -139,7 +139,7 @@ fn operation(
     at: Walk,
 ) -> Walk
     requires { Parts table.now words.now pool.now node.0 at.node.0 to.0 depth state.level }
-    ensures { Did words.now pool.now (under state prefix.now) node.0 to.0 (ruleOf 1) out.old at out.new result }
+    ensures { Did words.now pool.now (under state prefix.now) node.0 to.0 (rule_of 1) out.old at out.new result }
 {
     let a = leaves::operation_type(words, node, out, at);
     let b = leaves::if_named(words, pool, node, b" ", out, a);
@@ -171,7 +171,7 @@ fn fragment(
     at: Walk,
 ) -> Walk
     requires { Parts table.now words.now pool.now node.0 at.node.0 to.0 depth state.level }
-    ensures { Did words.now pool.now (under state prefix.now) node.0 to.0 (ruleOf 2) out.old at out.new result }
+    ensures { Did words.now pool.now (under state prefix.now) node.0 to.0 (rule_of 2) out.old at out.new result }
 {
     let a = layout::token(out, at, b"fragment ");
     let b = layout::name(words, pool, node, out, a);
@@ -193,7 +193,7 @@ fn directive_definition(
     at: Walk,
 ) -> Walk
     requires { Parts table.now words.now pool.now node.0 at.node.0 to.0 depth state.level }
-    ensures { Did words.now pool.now (under state prefix.now) node.0 to.0 (ruleOf 3) out.old at out.new result }
+    ensures { Did words.now pool.now (under state prefix.now) node.0 to.0 (rule_of 3) out.old at out.new result }
 {
     let a = leaves::serialize_description(words, pool, table, to, prefix, state, out, at);
     let b = layout::token(out, a, b"directive @");
@@ -229,7 +229,7 @@ fn schema(
     at: Walk,
 ) -> Walk
     requires { Parts table.now words.now pool.now node.0 at.node.0 to.0 depth state.level }
-    ensures { Did words.now pool.now (under state prefix.now) node.0 to.0 (ruleOf 4) out.old at out.new result }
+    ensures { Did words.now pool.now (under state prefix.now) node.0 to.0 (rule_of 4) out.old at out.new result }
 {
     let a = leaves::serialize_description(words, pool, table, to, prefix, state, out, at);
     let b = layout::token(out, a, b"schema");
@@ -262,7 +262,7 @@ fn schema_extension(
     at: Walk,
 ) -> Walk
     requires { Parts table.now words.now pool.now node.0 at.node.0 to.0 depth state.level }
-    ensures { Did words.now pool.now (under state prefix.now) node.0 to.0 (ruleOf 11) out.old at out.new result }
+    ensures { Did words.now pool.now (under state prefix.now) node.0 to.0 (rule_of 11) out.old at out.new result }
 {
     let a = layout::token(out, at, b"extend schema");
     let b = serialize::directives(words, pool, table, to, depth, prefix, state, out, a);
@@ -294,7 +294,7 @@ fn object_type_like(
     at: Walk,
 ) -> Walk
     requires { Parts table.now words.now pool.now node.0 at.node.0 to.0 depth state.level }
-    ensures { Did words.now pool.now (under state prefix.now) node.0 to.0 objectTail out.old at out.new result }
+    ensures { Did words.now pool.now (under state prefix.now) node.0 to.0 object_tail out.old at out.new result }
 {
     let a = layout::name(words, pool, node, out, at);
     let b = listed_after(
@@ -523,7 +523,7 @@ fn type_definition(
     at: Walk,
 ) -> Walk
     requires { Parts table.now words.now pool.now node.0 at.node.0 to.0 depth state.level × (5 ≤ kind) × (kind ≤ 10) }
-    ensures { Did words.now pool.now (under state prefix.now) node.0 to.0 (ruleOf kind) out.old at out.new result }
+    ensures { Did words.now pool.now (under state prefix.now) node.0 to.0 (rule_of kind) out.old at out.new result }
 {
     let a = leaves::serialize_description(words, pool, table, to, prefix, state, out, at);
     type_like(
@@ -545,7 +545,7 @@ fn type_extension(
     at: Walk,
 ) -> Walk
     requires { Parts table.now words.now pool.now node.0 at.node.0 to.0 depth state.level × (12 ≤ kind) × (kind ≤ 17) }
-    ensures { Did words.now pool.now (under state prefix.now) node.0 to.0 (ruleOf kind) out.old at out.new result }
+    ensures { Did words.now pool.now (under state prefix.now) node.0 to.0 (rule_of kind) out.old at out.new result }
 {
     let a = layout::token(out, at, b"extend ");
     type_like(
@@ -577,7 +577,7 @@ fn serialize_kind(
     at: Walk,
 ) -> Walk
     requires { Parts table.now words.now pool.now node.0 at.node.0 to.0 depth state.level × (1 ≤ kind) × (kind ≤ 17) }
-    ensures { Did words.now pool.now (under state prefix.now) node.0 to.0 (ruleOf kind) out.old at out.new result }
+    ensures { Did words.now pool.now (under state prefix.now) node.0 to.0 (rule_of kind) out.old at out.new result }
 {
     match kind {
         1 => operation(words, pool, table, node, to, depth, prefix, state, out, at),
@@ -636,7 +636,7 @@ pub fn serialize_definition(
     pen: Pen,
 ) -> Pen
     requires { Job table.now words.now pool.now node.0 depth state.level × (1 ≤ kind_at words.now node.0) × (kind_at words.now node.0 ≤ 17) }
-    ensures { Wrote out.old pen (definitionText (under state prefix.now) first (treeAt words.now pool.now node.0)) out.new result }
+    ensures { Wrote out.old pen (definition_text (under state prefix.now) first (tree_at words.now pool.now node.0)) out.new result }
 {
     let to = NodeNumber(table::end(words, node));
     let at = Walk {

@@ -4,8 +4,8 @@ use Rattle.std.specs.Prelude.{ℕ, ◌≡◌, refl, false, eqb}
 use Rattle.std.proofs.Common.{sym, ap, ◌∙◌}
 use Rattle.std.proofs.Math.Option.{Option, none, some}
 use Rattle.meaning.specs.Ascii.{if◌then◌else◌}
-use Rattle.meaning.specs.Reading.{Form as FormRead, quotedForm, blockForm}
-use Rattle.meaning.specs.Answers.{Answer, refusalAnswer, checkedAnswer, printedAnswer, readingAnswer}
+use Rattle.meaning.specs.Reading.{Form as FormRead, quoted_form, block_form}
+use Rattle.meaning.specs.Answers.{Answer, refusal_answer, checked_answer, printed_answer, reading_answer}
 use Rattle.meaning.specs.declared.Refusal.{Refusal}
 use Rattle.meaning.specs.declared.Refusal.TheVariants.{Settings, Size, Node, Nesting, Depth, Children, Text, Room, Literal}
 use Rattle.meaning.specs.declared.Checked.{Checked}
@@ -26,8 +26,8 @@ abbrev bytes : Answer → Offset
 bytes a = record { 0 = a.length }
 
 -- the refusal of a number from 1 on
-abbrev refusalOf : Answer → Refusal
-refusalOf a =
+abbrev refusal_of : Answer → Refusal
+refusal_of a =
     if eqb a.number 1 then Settings
     else if eqb a.number 2 then Size
     else if eqb a.number 3 then Node (node a)
@@ -38,58 +38,58 @@ refusalOf a =
     else if eqb a.number 8 then Room (bytes a)
     else Literal
 
-refusal-read-back : (r : Refusal) → refusalOf (refusalAnswer r) ≡ r
-refusal-read-back Settings = refl
-refusal-read-back Size = refl
-refusal-read-back (Node i) = refl
-refusal-read-back (Nesting i) = refl
-refusal-read-back (Depth i) = refl
-refusal-read-back (Children i) = refl
-refusal-read-back (Text i) = refl
-refusal-read-back (Room n) = refl
-refusal-read-back Literal = refl
+refusal_read_back : (r : Refusal) → refusal_of (refusal_answer r) ≡ r
+refusal_read_back Settings = refl
+refusal_read_back Size = refl
+refusal_read_back (Node i) = refl
+refusal_read_back (Nesting i) = refl
+refusal_read_back (Depth i) = refl
+refusal_read_back (Children i) = refl
+refusal_read_back (Text i) = refl
+refusal_read_back (Room n) = refl
+refusal_read_back Literal = refl
 
 -- a refusal's number is not 0
-pub refused-is-not-0 : (r : Refusal) → eqb (refusalAnswer r).number 0 ≡ false
-refused-is-not-0 Settings = refl
-refused-is-not-0 Size = refl
-refused-is-not-0 (Node i) = refl
-refused-is-not-0 (Nesting i) = refl
-refused-is-not-0 (Depth i) = refl
-refused-is-not-0 (Children i) = refl
-refused-is-not-0 (Text i) = refl
-refused-is-not-0 (Room n) = refl
-refused-is-not-0 Literal = refl
+pub refused_is_not_0 : (r : Refusal) → eqb (refusal_answer r).number 0 ≡ false
+refused_is_not_0 Settings = refl
+refused_is_not_0 Size = refl
+refused_is_not_0 (Node i) = refl
+refused_is_not_0 (Nesting i) = refl
+refused_is_not_0 (Depth i) = refl
+refused_is_not_0 (Children i) = refl
+refused_is_not_0 (Text i) = refl
+refused_is_not_0 (Room n) = refl
+refused_is_not_0 Literal = refl
 
-abbrev checkedOf : Answer → Checked
-checkedOf a = if eqb a.number 0 then Accepted else NotAccepted (refusalOf a)
+abbrev checked_of : Answer → Checked
+checked_of a = if eqb a.number 0 then Accepted else NotAccepted (refusal_of a)
 
-checked-read-back : (c : Checked) → checkedOf (checkedAnswer c) ≡ c
-checked-read-back Accepted = refl
-checked-read-back (NotAccepted r) = rw (refused-is-not-0 r, refusal-read-back r)
+checked_read_back : (c : Checked) → checked_of (checked_answer c) ≡ c
+checked_read_back Accepted = refl
+checked_read_back (NotAccepted r) = rw (refused_is_not_0 r, refusal_read_back r)
 
-abbrev printedOf : Answer → Printed
-printedOf a = if eqb a.number 0 then Written (bytes a) else NotWritten (refusalOf a)
+abbrev printed_of : Answer → Printed
+printed_of a = if eqb a.number 0 then Written (bytes a) else NotWritten (refusal_of a)
 
-printed-read-back : (p : Printed) → printedOf (printedAnswer p) ≡ p
-printed-read-back (Written n) = refl
-printed-read-back (NotWritten r) = rw (refused-is-not-0 r, refusal-read-back r)
+printed_read_back : (p : Printed) → printed_of (printed_answer p) ≡ p
+printed_read_back (Written n) = refl
+printed_read_back (NotWritten r) = rw (refused_is_not_0 r, refusal_read_back r)
 
 abbrev read_of : Answer → Option FormRead → Reading
-read_of a none = NotRead (refusalOf a)
-read_of a (some quotedForm) = Value Quoted (bytes a)
-read_of a (some blockForm) = Value Block (bytes a)
+read_of a none = NotRead (refusal_of a)
+read_of a (some quoted_form) = Value Quoted (bytes a)
+read_of a (some block_form) = Value Block (bytes a)
 
-reading-read-back : (r : Reading) → read_of (readingAnswer r).0 (readingAnswer r).1 ≡ r
-reading-read-back (Value Quoted n) = refl
-reading-read-back (Value Block n) = refl
-reading-read-back (NotRead r) = rw (refusal-read-back r)
+reading_read_back : (r : Reading) → read_of (reading_answer r).0 (reading_answer r).1 ≡ r
+reading_read_back (Value Quoted n) = refl
+reading_read_back (Value Block n) = refl
+reading_read_back (NotRead r) = rw (refusal_read_back r)
 
-pub one-checked : (c d : Checked) → checkedAnswer c ≡ checkedAnswer d → c ≡ d
-one-checked c d e = sym (checked-read-back c) ∙ ap checkedOf e ∙ checked-read-back d
+pub one_checked : (c d : Checked) → checked_answer c ≡ checked_answer d → c ≡ d
+one_checked c d e = sym (checked_read_back c) ∙ ap checked_of e ∙ checked_read_back d
 
-pub one-printed : (p q : Printed) → printedAnswer p ≡ printedAnswer q → p ≡ q
-one-printed p q e = sym (printed-read-back p) ∙ ap printedOf e ∙ printed-read-back q
+pub one_printed : (p q : Printed) → printed_answer p ≡ printed_answer q → p ≡ q
+one_printed p q e = sym (printed_read_back p) ∙ ap printed_of e ∙ printed_read_back q
 
-pub one-reading : (r s : Reading) → readingAnswer r ≡ readingAnswer s → r ≡ s
-one-reading r s e = sym (reading-read-back r) ∙ ap (λ (a : Answer × Option FormRead). read_of a.0 a.1) e ∙ reading-read-back s
+pub one_reading : (r s : Reading) → reading_answer r ≡ reading_answer s → r ≡ s
+one_reading r s e = sym (reading_read_back r) ∙ ap (λ (a : Answer × Option FormRead). read_of a.0 a.1) e ∙ reading_read_back s

@@ -6,18 +6,18 @@ abbrev pub modulus : ℕ
 modulus = 2 ^ 56 - 5
 
 -- the digits that follow those of n
-unfoldable pub numberFrom : ℕ → List ℕ → ℕ
-numberFrom n [] = n
-numberFrom n (b ∷ s) = numberFrom (256 * n + b) s
+unfoldable pub number_from : ℕ → List ℕ → ℕ
+number_from n [] = n
+number_from n (b ∷ s) = number_from (256 * n + b) s
 
 unfoldable pub digest : List ℕ → ℕ
-unfolding numberFrom
-digest s = numberFrom 1 s % modulus
+unfolding number_from
+digest s = number_from 1 s % modulus
 
 -- of no text, of `abc`, and of `abcdefg`, the first length that the modulus bears on
-pub known-digests
+pub known_digests
     : (digest [] ≡ 0x01)
     × (digest (0x61 ∷ 0x62 ∷ 0x63 ∷ []) ≡ 0x01616263)
     × (digest (0x61 ∷ 0x62 ∷ 0x63 ∷ 0x64 ∷ 0x65 ∷ 0x66 ∷ 0x67 ∷ []) ≡ 0x6162636465666C)
 unfolding digest
-known-digests = (refl, refl, refl)
+known_digests = (refl, refl, refl)

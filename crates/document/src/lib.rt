@@ -2,9 +2,9 @@
 ghost use Rattle.std.specs.Prelude.{◌≡◌, ◌≤◌, ◌<◌};
 ghost use Rattle.meaning.specs.Settings.{settings};
 ghost use Rattle.meaning.specs.Table.{tree_of, forest};
-ghost use Rattle.meaning.specs.Layout.{apart, laterDefinitions, documentText};
-ghost use Rattle.meaning.specs.Answers.{printedAnswer};
-ghost use Rattle.meaning.specs.Entries.{printedDocument};
+ghost use Rattle.meaning.specs.Layout.{apart, later_definitions, document_text};
+ghost use Rattle.meaning.specs.Answers.{printed_answer};
+ghost use Rattle.meaning.specs.Entries.{printed_document};
 ghost use Rattle.pen.specs.Wrote.{Wrote};
 ghost use Rattle.layout.specs.Written.{under};
 ghost use Rattle.document.specs.Top.{Top, Tops, ending};
@@ -40,7 +40,7 @@ fn later_definitions(
     pen: Pen,
 ) -> Pen
     requires { Tops table.now words.now pool.now from.0 to.0 state.level }
-    ensures { Wrote out.old pen (laterDefinitions (under state prefix.now) (forest words.now pool.now from.0 to.0)) out.new result }
+    ensures { Wrote out.old pen (later_definitions (under state prefix.now) (forest words.now pool.now from.0 to.0)) out.new result }
 {
     let mut i = from;
     let mut p = pen;
@@ -75,7 +75,7 @@ fn top_level(
     pen: Pen,
 ) -> Pen
     requires { Top table.now words.now pool.now state.level }
-    ensures { Wrote out.old pen (documentText (under state prefix.now) (tree_of words.now pool.now)) out.new result }
+    ensures { Wrote out.old pen (document_text (under state prefix.now) (tree_of words.now pool.now)) out.new result }
 {
     let to = NodeNumber(table::end(words, NodeNumber(0)));
     let first = NodeNumber(1);
@@ -99,7 +99,7 @@ pub fn print_document(
     pool: &[u8],
     out: &mut [u8],
 ) -> meaning::Printed
-    ensures { (printedAnswer result, out.new) ≡ printedDocument (settings breaks prefix.now level) words.now pool.now out.old }
+    ensures { (printed_answer result, out.new) ≡ printed_document (settings breaks prefix.now level) words.now pool.now out.old }
 {
     let checked = check_table::check_document(breaks, prefix, level, words, pool);
     if let meaning::Checked::Refused(why) = checked {

@@ -1,6 +1,6 @@
 // The C interface: numbers and byte slices. The result is document 01's number, 0 for success.
 ghost use Rattle.std.specs.Prelude.{◌≡◌};
-ghost use Rattle.meaning.specs.Entries.{printedLiteralByNumbers, readLiteral, checkedTable, checkedDocumentByNumbers, printedDocumentByNumbers};
+ghost use Rattle.meaning.specs.Entries.{printed_literal_by_numbers, read_literal, checked_table, checked_document_by_numbers, printed_document_by_numbers};
 ghost use Rattle.gateway.specs.Numbers.{Told, ToldForm, ToldPlace, ToldWhole};
 
 #[unsafe(no_mangle)]
@@ -13,7 +13,7 @@ pub extern "C" fn dervisclo_print_literal(
     out: &mut [u8],
     length: &mut u64,
 ) -> u32
-    ensures { Told (printedLiteralByNumbers breaks prefix.now level description value.now out.old) result length.new out.new }
+    ensures { Told (printed_literal_by_numbers breaks prefix.now level description value.now out.old) result length.new out.new }
 {
     if 1 < breaks {
         *length = 0;
@@ -42,7 +42,7 @@ pub extern "C" fn dervisclo_read_literal(
     length: &mut u64,
     form: &mut u32,
 ) -> u32
-    ensures { ToldForm (readLiteral text.now out.old) result length.new form.new out.new }
+    ensures { ToldForm (read_literal text.now out.old) result length.new form.new out.new }
 {
     let answer = reader::read_literal(text, out);
     let meaning::Reading::Value(found, n) = answer else {
@@ -58,7 +58,7 @@ pub extern "C" fn dervisclo_read_literal(
 // The lowest refusal of a table, and its place; 0 where it is accepted.
 #[unsafe(no_mangle)]
 pub extern "C" fn dervisclo_check_table(words: &[u32], pool: &[u8], place: &mut u64) -> u32
-    ensures { ToldPlace (checkedTable words.now pool.now) result place.new }
+    ensures { ToldPlace (checked_table words.now pool.now) result place.new }
 {
     let answer = check_table::check_table(words, pool);
     *place = numbers::checked_place(answer);
@@ -75,7 +75,7 @@ pub extern "C" fn dervisclo_check_document(
     pool: &[u8],
     place: &mut u64,
 ) -> u32
-    ensures { ToldPlace (checkedDocumentByNumbers breaks prefix.now level words.now pool.now) result place.new }
+    ensures { ToldPlace (checked_document_by_numbers breaks prefix.now level words.now pool.now) result place.new }
 {
     if breaks > 1 {
         *place = 0;
@@ -98,7 +98,7 @@ pub extern "C" fn dervisclo_print_document(
     place: &mut u64,
     length: &mut u64,
 ) -> u32
-    ensures { ToldWhole (printedDocumentByNumbers breaks prefix.now level words.now pool.now out.old) result place.new length.new out.new }
+    ensures { ToldWhole (printed_document_by_numbers breaks prefix.now level words.now pool.now out.old) result place.new length.new out.new }
 {
     if 1 < breaks {
         *place = 0;

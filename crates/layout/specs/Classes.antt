@@ -2,7 +2,7 @@
 use Rattle.std.specs.Prelude.{◌≡◌, Bool, true, false, ℕ, ◌≤◌, ◌<◌, eqb, leb}
 use Rattle.std.proofs.Math.Path.{refl}
 use borrow.Author.Tests.{ne_eqb, le-leb, lt-leb}
-use Rattle.meaning.specs.Children.{Class as ClassMeant, a, selection, value, isIn}
+use Rattle.meaning.specs.Children.{Class as ClassMeant, a, selection, value, is_in}
 use Rattle.layout.specs.declared.Class.{Class}
 use Rattle.layout.specs.declared.Class.TheVariants.{Kind, Selection, Value}
 
@@ -14,26 +14,26 @@ meant Value = value
 -- ---- the tests of the two classes, one after the other
 
 module _ (k variant : ℕ) where
-  pub field-is-selection : k ≡ 29 → true ≡ isIn selection k variant
-  unfolding isIn
-  field-is-selection e = rw e
+  pub field_is_selection : k ≡ 29 → true ≡ is_in selection k variant
+  unfolding is_in
+  field_is_selection e = rw e
 
-  pub before-fragments : (k ≡ 29 → ⊥) → k < 31 → false ≡ isIn selection k variant
-  unfolding isIn
-  before-fragments n l = rw (ne_eqb k 29 n, lt-leb 31 k l)
+  pub before_fragments : (k ≡ 29 → ⊥) → k < 31 → false ≡ is_in selection k variant
+  unfolding is_in
+  before_fragments n l = rw (ne_eqb k 29 n, lt-leb 31 k l)
 
-  pub fragments-tell : (k ≡ 29 → ⊥) → 31 ≤ k → leb k 32 ≡ isIn selection k variant
-  unfolding isIn
-  fragments-tell n l = rw (ne_eqb k 29 n, le-leb 31 k l)
+  pub fragments_tell : (k ≡ 29 → ⊥) → 31 ≤ k → leb k 32 ≡ is_in selection k variant
+  unfolding is_in
+  fragments_tell n l = rw (ne_eqb k 29 n, le-leb 31 k l)
 
-  pub before-values : k < 35 → false ≡ isIn value k variant
-  unfolding isIn
-  before-values l = rw (lt-leb 35 k l)
+  pub before_values : k < 35 → false ≡ is_in value k variant
+  unfolding is_in
+  before_values l = rw (lt-leb 35 k l)
 
-  pub values-tell : 35 ≤ k → leb k 43 ≡ isIn value k variant
-  unfolding isIn
-  values-tell l = rw (le-leb 35 k l)
+  pub values_tell : 35 ≤ k → leb k 43 ≡ is_in value k variant
+  unfolding is_in
+  values_tell l = rw (le-leb 35 k l)
 
-  pub kind-tells : (j : ℕ) → eqb k j ≡ isIn (a j) k variant
-  unfolding isIn
-  kind-tells j = refl
+  pub kind_tells : (j : ℕ) → eqb k j ≡ is_in (a j) k variant
+  unfolding is_in
+  kind_tells j = refl

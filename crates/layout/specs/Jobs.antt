@@ -1,9 +1,9 @@
 -- What a printing function asks of the nodes that it is to print.
 use Rattle.std.specs.Prelude.{◌≡◌, refl, List, ℕ, suc, ◌+◌, ◌-◌, ◌*◌, ◌≤◌, ◌<◌, length}
 use Rattle.std.proofs.Common.{arith}
-use Rattle.meaning.specs.Table.{nodes, kind_at, end_at, forest, treeAt}
+use Rattle.meaning.specs.Table.{nodes, kind_at, end_at, forest, tree_at}
 use Rattle.tree_laws.specs.Height.{height, heights}
-use Rattle.tree_laws.specs.Forest.{Shaped, Range, children-range, rest-range, tall-first, tall-rest, tall-below}
+use Rattle.tree_laws.specs.Forest.{Shaped, Range, children_range, rest_range, tall_first, tall_rest, tall_below}
 use Rattle.tree_laws.specs.Lists.{ListsHoldTypes}
 use Rattle.table.specs.Words.{InTable, TextInPool}
 use Rattle.quoted.specs.Classes.{classes}
@@ -31,7 +31,7 @@ pub record Jobs (t w p : List ℕ) (i e d l : ℕ) : Type 0 where
 pub record Job (t w p : List ℕ) (i d l : ℕ) : Type 0 where
   pub shaped : Shaped w p
   pub inside : i < nodes w
-  pub deep : height (treeAt w p i) ≤ d
+  pub deep : height (tree_at w p i) ≤ d
   pub below : (j : ℕ) → i < j → j < end_at w i → 17 < kind_at w j
   pub lists : ListsHoldTypes w
   pub level : l + d < 256
@@ -47,38 +47,38 @@ pub record Within (w : List ℕ) (e : ℕ) : Type 0 where
 pub in_table : {w : List ℕ} {i e : ℕ} → Within w e → i < e → InTable w i
 in_table n h = record { words = omega (arith, n.words); few = omega (arith, n.few) }
 
-pub node-in-table : {w p : List ℕ} {i : ℕ} → Shaped w p → i < nodes w → InTable w i
-node-in-table s h = record { words = omega (arith, s.words); few = omega (arith, s.few) }
+pub node_in_table : {w p : List ℕ} {i : ℕ} → Shaped w p → i < nodes w → InTable w i
+node_in_table s h = record { words = omega (arith, s.words); few = omega (arith, s.few) }
 
-pub rest-within : {w p : List ℕ} {i e d : ℕ} → Rest w p i e d → Within w e
-rest-within r = record { words = omega (arith, r.shaped.words, r.range.last); few = omega (arith, r.shaped.few, r.range.last) }
+pub rest_within : {w p : List ℕ} {i e d : ℕ} → Rest w p i e d → Within w e
+rest_within r = record { words = omega (arith, r.shaped.words, r.range.last); few = omega (arith, r.shaped.few, r.range.last) }
 
-pub rest-inside : {w p : List ℕ} {i e d : ℕ} → Rest w p i e d → i < e → i < nodes w
-rest-inside r h = omega (arith, r.range.last)
+pub rest_inside : {w p : List ℕ} {i e d : ℕ} → Rest w p i e d → i < e → i < nodes w
+rest_inside r h = omega (arith, r.range.last)
 
-pub job-in-table : {t w p : List ℕ} {i d l : ℕ} → Job t w p i d l → InTable w i
-job-in-table j = node-in-table j.shaped j.inside
+pub job_in_table : {t w p : List ℕ} {i d l : ℕ} → Job t w p i d l → InTable w i
+job_in_table j = node_in_table j.shaped j.inside
 
-pub job-text : {t w p : List ℕ} {i d l : ℕ} → Job t w p i d l → TextInPool w p i
-job-text {i = i} j = record { node = job-in-table j; inPool = j.shaped.texts i j.inside }
+pub job_text : {t w p : List ℕ} {i d l : ℕ} → Job t w p i d l → TextInPool w p i
+job_text {i = i} j = record { node = job_in_table j; in_pool = j.shaped.texts i j.inside }
 
-pub job-deep : {t w p : List ℕ} {i d l : ℕ} → Job t w p i d l → 0 < d
-job-deep {t} {w} {p} {i} j = omega (arith, tall-below w p i, j.deep)
+pub job_deep : {t w p : List ℕ} {i d l : ℕ} → Job t w p i d l → 0 < d
+job_deep {t} {w} {p} {i} j = omega (arith, tall_below w p i, j.deep)
 
 -- ---- from a node to its children, from a child to the next
 
-pub children-jobs : {t w p : List ℕ} {i d l e : ℕ} → Job t w p i d l → e ≡ end_at w i → Jobs t w p (i + 1) e (d - 1) (l + 1)
-children-jobs {t} {w} {p} {i} {d} {l} j at =
+pub children_jobs : {t w p : List ℕ} {i d l e : ℕ} → Job t w p i d l → e ≡ end_at w i → Jobs t w p (i + 1) e (d - 1) (l + 1)
+children_jobs {t} {w} {p} {i} {d} {l} j at =
     let z : Jobs t w p (i + 1) (end_at w i) (d - 1) (l + 1) =
     record {
       rest = record {
         shaped = j.shaped;
-        range = children-range j.shaped i j.inside;
-        deep = omega (arith, tall-below w p i, j.deep);
+        range = children_range j.shaped i j.inside;
+        deep = omega (arith, tall_below w p i, j.deep);
         inner = λ k a b. j.below k (omega arith) b;
       };
       lists = j.lists;
-      level = omega (arith, j.level, job-deep j);
+      level = omega (arith, j.level, job_deep j);
       table = j.table;
     }
     in rw at z
@@ -86,33 +86,33 @@ children-jobs {t} {w} {p} {i} {d} {l} j at =
 pub here : {t w p : List ℕ} {i e d l : ℕ} → Jobs t w p i e d (l + 1) → Jobs t w p i e d l
 here j = record { rest = j.rest; lists = j.lists; level = omega (arith, j.level); table = j.table }
 
-pub jobs-on : {t w p : List ℕ} {i e d l k : ℕ} → Jobs t w p i e d l → Rest w p k e d → Jobs t w p k e d l
-jobs-on j r = record { rest = r; lists = j.lists; level = j.level; table = j.table }
+pub jobs_on : {t w p : List ℕ} {i e d l k : ℕ} → Jobs t w p i e d l → Rest w p k e d → Jobs t w p k e d l
+jobs_on j r = record { rest = r; lists = j.lists; level = j.level; table = j.table }
 
-pub first-job : {t w p : List ℕ} {i e d l : ℕ} → Jobs t w p i e d l → i < e → Job t w p i d l
-first-job {t} {w} {p} {i} {e} j h =
+pub first_job : {t w p : List ℕ} {i e d l : ℕ} → Jobs t w p i e d l → i < e → Job t w p i d l
+first_job {t} {w} {p} {i} {e} j h =
     let s = j.rest.shaped in
     let r = j.rest.range in
     record {
       shaped = s;
-      inside = rest-inside j.rest h;
-      deep = omega (arith, j.rest.deep, tall-first s r h);
+      inside = rest_inside j.rest h;
+      deep = omega (arith, j.rest.deep, tall_first s r h);
       below = λ k a b. j.rest.inner k (omega arith) (omega (arith, r.whole i (omega arith) h));
       lists = j.lists;
       level = j.level;
       table = j.table;
     }
 
-pub rest-on : {w p : List ℕ} {i e d : ℕ} → Rest w p i e d → i < e → Rest w p (end_at w i) e d
-rest-on {w} {p} {i} {e} r h = record {
+pub rest_on : {w p : List ℕ} {i e d : ℕ} → Rest w p i e d → i < e → Rest w p (end_at w i) e d
+rest_on {w} {p} {i} {e} r h = record {
   shaped = r.shaped;
-  range = rest-range r.shaped r.range h;
-  deep = omega (arith, r.deep, tall-rest r.shaped r.range h);
-  inner = λ k a b. r.inner k (omega (arith, r.shaped.above i (rest-inside r h))) b;
+  range = rest_range r.shaped r.range h;
+  deep = omega (arith, r.deep, tall_rest r.shaped r.range h);
+  inner = λ k a b. r.inner k (omega (arith, r.shaped.above i (rest_inside r h))) b;
 }
 
-pub less-left : {w p : List ℕ} {i e d k : ℕ} → Rest w p i e d → i < e → k ≡ end_at w i → e - k < e - i
-less-left {i = i} r h at = omega (arith, at, r.shaped.above i (rest-inside r h))
+pub less_left : {w p : List ℕ} {i e d k : ℕ} → Rest w p i e d → i < e → k ≡ end_at w i → e - k < e - i
+less_left {i = i} r h at = omega (arith, at, r.shaped.above i (rest_inside r h))
 
 -- ---- the same, where only the range is asked for
 
@@ -120,26 +120,26 @@ ranged : {w p : List ℕ} {i e : ℕ} → Shaped w p → Range w i e → Ranged 
 ranged s r = record { shaped = s; range = r }
 
 module _ {w p : List ℕ} {i e : ℕ} (r : Ranged w p i e) where
-  pub ranged-within : Within w e
-  ranged-within = record { words = omega (arith, r.shaped.words, r.range.last); few = omega (arith, r.shaped.few, r.range.last) }
+  pub ranged_within : Within w e
+  ranged_within = record { words = omega (arith, r.shaped.words, r.range.last); few = omega (arith, r.shaped.few, r.range.last) }
 
-  pub ranged-inside : i < e → i < nodes w
-  ranged-inside h = omega (arith, r.range.last)
+  pub ranged_inside : i < e → i < nodes w
+  ranged_inside h = omega (arith, r.range.last)
 
-  pub ranged-node : i < e → InTable w i
-  ranged-node h = node-in-table r.shaped (ranged-inside h)
+  pub ranged_node : i < e → InTable w i
+  ranged_node h = node_in_table r.shaped (ranged_inside h)
 
-  pub ranged-text : i < e → TextInPool w p i
-  ranged-text h = record { node = ranged-node h; inPool = r.shaped.texts i (ranged-inside h) }
+  pub ranged_text : i < e → TextInPool w p i
+  ranged_text h = record { node = ranged_node h; in_pool = r.shaped.texts i (ranged_inside h) }
 
-  pub ranged-on : {k : ℕ} → i < e → k ≡ end_at w i → Ranged w p k e
-  ranged-on {k} h at = rw at (ranged r.shaped (rest-range r.shaped r.range h))
+  pub ranged_on : {k : ℕ} → i < e → k ≡ end_at w i → Ranged w p k e
+  ranged_on {k} h at = rw at (ranged r.shaped (rest_range r.shaped r.range h))
 
-  pub ranged-children : {k : ℕ} → i < e → k ≡ end_at w i → Ranged w p (i + 1) k
-  ranged-children {k} h at = rw at (ranged r.shaped (children-range r.shaped i (ranged-inside h)))
+  pub ranged_children : {k : ℕ} → i < e → k ≡ end_at w i → Ranged w p (i + 1) k
+  ranged_children {k} h at = rw at (ranged r.shaped (children_range r.shaped i (ranged_inside h)))
 
-  pub ranged-less : {k : ℕ} → i < e → k ≡ end_at w i → e - k < e - i
-  ranged-less h at = omega (arith, at, r.shaped.above i (ranged-inside h))
+  pub ranged_less : {k : ℕ} → i < e → k ≡ end_at w i → e - k < e - i
+  ranged_less h at = omega (arith, at, r.shaped.above i (ranged_inside h))
 
-pub rest-ranged : {w p : List ℕ} {i e d : ℕ} → Rest w p i e d → Ranged w p i e
-rest-ranged r = record { shaped = r.shaped; range = r.range }
+pub rest_ranged : {w p : List ℕ} {i e d : ℕ} → Rest w p i e d → Ranged w p i e
+rest_ranged r = record { shaped = r.shaped; range = r.range }

@@ -1,16 +1,16 @@
 // What the printer of every kind is made of: tokens, texts, new lines, and a look at the children ahead.
 ghost use Rattle.std.specs.Prelude.{◌≡◌, List, ℕ, ◌<◌};
 ghost use Rattle.meaning.specs.Ascii.{if◌then◌else◌};
-ghost use Rattle.meaning.specs.Settings.{newLine, newLineOrSpace, deeper, onSingleLine};
-ghost use Rattle.meaning.specs.Table.{textAt};
-ghost use Rattle.meaning.specs.Children.{a, selection, value, isIn};
+ghost use Rattle.meaning.specs.Settings.{new_line, new_line_or_space, deeper, on_single_line};
+ghost use Rattle.meaning.specs.Table.{text_at};
+ghost use Rattle.meaning.specs.Children.{a, selection, value, is_in};
 ghost use Rattle.table.specs.Words.{InTable, TextInPool};
 ghost use Rattle.layout.specs.Classes.{meant};
 ghost use Rattle.layout.specs.declared.Gap.TheVariants.{Comma};
-ghost use Rattle.layout.specs.Kids.{nextIs};
-ghost use Rattle.layout.specs.Written.{under, gapText, lastComma, Kept, Past};
+ghost use Rattle.layout.specs.Kids.{next_is};
+ghost use Rattle.layout.specs.Written.{under, gap_text, last_comma, Kept, Past};
 ghost use Rattle.layout.specs.Jobs.{Within, Ranged};
-ghost use Rattle.layout.specs.Marks.{markAmong, markedRun};
+ghost use Rattle.layout.specs.Marks.{mark_among, marked_run};
 
 use meaning::NodeNumber;
 use pen::Pen;
@@ -65,13 +65,13 @@ pub fn token(out: &mut [u8], at: Walk, bytes: &[u8]) -> Walk
 // The text of a node.
 pub fn name(words: &[u32], pool: &[u8], node: NodeNumber, out: &mut [u8], at: Walk) -> Walk
     requires { TextInPool words.now pool.now node.0 }
-    ensures { Kept out.old at (textAt words.now pool.now node.0) out.new result }
+    ensures { Kept out.old at (text_at words.now pool.now node.0) out.new result }
 {
     token(out, at, table::text(words, pool, node))
 }
 
 pub fn new_line(prefix: &[u8], state: State, out: &mut [u8], at: Walk) -> Walk
-    ensures { Kept out.old at (newLine (under state prefix.now)) out.new result }
+    ensures { Kept out.old at (new_line (under state prefix.now)) out.new result }
 {
     if state.breaks {
         let node = at.node;
@@ -83,7 +83,7 @@ pub fn new_line(prefix: &[u8], state: State, out: &mut [u8], at: Walk) -> Walk
 }
 
 pub fn new_line_or_space(prefix: &[u8], state: State, out: &mut [u8], at: Walk) -> Walk
-    ensures { Kept out.old at (newLineOrSpace (under state prefix.now)) out.new result }
+    ensures { Kept out.old at (new_line_or_space (under state prefix.now)) out.new result }
 {
     if state.breaks {
         return new_line(prefix, state, out, at);
@@ -92,14 +92,14 @@ pub fn new_line_or_space(prefix: &[u8], state: State, out: &mut [u8], at: Walk) 
 }
 
 fn comma_and_line(prefix: &[u8], state: State, out: &mut [u8], at: Walk) -> Walk
-    ensures { Kept out.old at (gapText Comma (under state prefix.now)) out.new result }
+    ensures { Kept out.old at (gap_text Comma (under state prefix.now)) out.new result }
 {
     let comma = token(out, at, b",");
     new_line_or_space(prefix, state, out, comma)
 }
 
 pub fn write_gap(gap: Gap, prefix: &[u8], state: State, out: &mut [u8], at: Walk) -> Walk
-    ensures { Kept out.old at (gapText gap (under state prefix.now)) out.new result }
+    ensures { Kept out.old at (gap_text gap (under state prefix.now)) out.new result }
 {
     match gap {
         Gap::Space => token(out, at, b" "),
@@ -112,7 +112,7 @@ pub fn write_gap(gap: Gap, prefix: &[u8], state: State, out: &mut [u8], at: Walk
 
 // The comma after the last item of a list.
 pub fn trailing_comma(list: State, out: &mut [u8], at: Walk) -> Walk
-    ensures { Kept out.old at (lastComma list.breaks) out.new result }
+    ensures { Kept out.old at (last_comma list.breaks) out.new result }
 {
     if list.breaks {
         return token(out, at, b",");
@@ -132,7 +132,7 @@ pub fn deeper(state: State) -> State
 }
 
 pub fn on_single_line(state: State) -> State
-    ensures { (p : List ℕ) → under result p ≡ onSingleLine (under state p) }
+    ensures { (p : List ℕ) → under result p ≡ on_single_line (under state p) }
 {
     State {
         breaks: false,
@@ -141,7 +141,7 @@ pub fn on_single_line(state: State) -> State
 }
 
 pub fn single_line_unless(marked: bool, state: State) -> State
-    ensures { (p : List ℕ) → under result p ≡ (if marked then under state p else onSingleLine (under state p)) }
+    ensures { (p : List ℕ) → under result p ≡ (if marked then under state p else on_single_line (under state p)) }
 {
     if marked {
         return state;
@@ -150,7 +150,7 @@ pub fn single_line_unless(marked: bool, state: State) -> State
 }
 
 fn is_selection(kind: usize) -> bool
-    ensures { (variant : ℕ) → result ≡ isIn selection kind variant }
+    ensures { (variant : ℕ) → result ≡ is_in selection kind variant }
 {
     if kind == 29 {
         return true;
@@ -162,7 +162,7 @@ fn is_selection(kind: usize) -> bool
 }
 
 fn is_value(kind: usize) -> bool
-    ensures { (variant : ℕ) → result ≡ isIn value kind variant }
+    ensures { (variant : ℕ) → result ≡ is_in value kind variant }
 {
     if kind < 35 {
         return false;
@@ -171,7 +171,7 @@ fn is_value(kind: usize) -> bool
 }
 
 fn is_in(class: Class, kind: usize) -> bool
-    ensures { (variant : ℕ) → result ≡ isIn (meant class) kind variant }
+    ensures { (variant : ℕ) → result ≡ is_in (meant class) kind variant }
 {
     match class {
         Class::Kind(k) => kind == k,
@@ -183,7 +183,7 @@ fn is_in(class: Class, kind: usize) -> bool
 // Whether the next child is there and of the class.
 pub fn is_next(words: &[u32], class: Class, from: NodeNumber, to: NodeNumber) -> bool
     requires { Within words.now to.0 }
-    ensures { result ≡ nextIs words.now (meant class) from.0 to.0 }
+    ensures { result ≡ next_is words.now (meant class) from.0 to.0 }
 {
     if to.0 <= from.0 {
         return false;
@@ -194,7 +194,7 @@ pub fn is_next(words: &[u32], class: Class, from: NodeNumber, to: NodeNumber) ->
 // Whether there is a description or a directive among the children from `from` on.
 fn has_mark(words: &[u32], pool: &[u8], from: NodeNumber, to: NodeNumber) -> bool
     requires { Ranged words.now pool.now from.0 to.0 }
-    ensures { result ≡ markAmong words.now pool.now from.0 to.0 }
+    ensures { result ≡ mark_among words.now pool.now from.0 to.0 }
 {
     let mut i = from;
     while i.0 < to.0 {
@@ -213,7 +213,7 @@ fn has_mark(words: &[u32], pool: &[u8], from: NodeNumber, to: NodeNumber) -> boo
 // Whether one of the next argument definitions has a description or a directive.
 pub fn any_marked(words: &[u32], pool: &[u8], from: NodeNumber, to: NodeNumber) -> bool
     requires { Ranged words.now pool.now from.0 to.0 }
-    ensures { result ≡ markedRun words.now pool.now (a 22) from.0 to.0 }
+    ensures { result ≡ marked_run words.now pool.now (a 22) from.0 to.0 }
 {
     let mut i = from;
     while is_next(words, Class::Kind(INPUT_VALUE_DEFINITION), i, to) {

@@ -4,19 +4,19 @@ use Rattle.std.proofs.Math.Path.{refl}
 use Rattle.std.proofs.Common.{ap, arith, length-take, length-drop}
 use Rattle.std.proofs.Math.Bool.{true}
 use Rattle.meaning.specs.Kind
-use Rattle.meaning.specs.Settings.{Settings, newLineOrSpace}
+use Rattle.meaning.specs.Settings.{Settings, new_line_or_space}
 use Rattle.meaning.specs.Literal.{literal}
-use Rattle.meaning.specs.Table.{start_at, length_at, textAt}
+use Rattle.meaning.specs.Table.{start_at, length_at, text_at}
 use Rattle.meaning.specs.Children.{a}
-use Rattle.meaning.specs.Rules.{Part, optional, child, token, sp, one_of, description, newLineOrSpace as aLine, one, ruleOf}
+use Rattle.meaning.specs.Rules.{Part, optional, child, token, sp, one_of, description, new_line_or_space as a_line, one, rule_of}
 use Rattle.meaning.specs.Layout.{is_empty}
 use Rattle.table.specs.Words.{TextInPool}
 use Rattle.layout.specs.declared.Walk.{Walk}
 use Rattle.layout.specs.Written.{Kept, Past}
-use Rattle.layout.specs.Kids.{nextIs}
+use Rattle.layout.specs.Kids.{next_is}
 use Rattle.layout.specs.Jobs.{Ranged}
-use Rattle.layout.specs.Did.{Did, ◌⨾◌, did-tokens, did_line, a-child}
-use Rattle.layout.specs.Child.{leaf-child, next-kind, name-is-text, literal-is-text}
+use Rattle.layout.specs.Did.{Did, ◌⨾◌, did_tokens, did_line, a_child}
+use Rattle.layout.specs.Child.{leaf_child, next_kind, name_is_text, literal_is_text}
 
 -- the alias of kind 29's rule
 abbrev pub alias : List Part
@@ -28,35 +28,35 @@ boolean = one_of ("false" ∷ "true" ∷ [])
 
 module _ {w p : List ℕ} {s : Settings} {n e : ℕ} {d : List ℕ} {at : Walk} {d' : List ℕ} {q b : Walk} {d'' : List ℕ} {r : Walk}
     (j : Ranged w p at.node.0 e) where
-  pub described : nextIs w (a Kind.description) at.node.0 e ≡ true → Kept d at (literal s true (textAt w p at.node.0)) d' q → Past w q b
-      → Kept d' b (newLineOrSpace s) d'' r → Did w p s n e description d at d'' r
-  unfolding ruleOf
+  pub described : next_is w (a Kind.description) at.node.0 e ≡ true → Kept d at (literal s true (text_at w p at.node.0)) d' q → Past w q b
+      → Kept d' b (new_line_or_space s) d'' r → Did w p s n e description d at d'' r
+  unfolding rule_of
   described z x y l =
-      a-child (child (a Kind.description) ++ aLine ∷ []) j (a Kind.description) z
-      (leaf-child Kind.description j z
-      (literal-is-text w p at.node.0 s true (ap ruleOf (next-kind w Kind.description at.node.0 e z))) x y
+      a_child (child (a Kind.description) ++ a_line ∷ []) j (a Kind.description) z
+      (leaf_child Kind.description j z
+      (literal_is_text w p at.node.0 s true (ap rule_of (next_kind w Kind.description at.node.0 e z))) x y
       ⨾ did_line l)
 
-  pub aliased : nextIs w (a Kind.alias) at.node.0 e ≡ true → Kept d at (textAt w p at.node.0) d' q → Past w q b
+  pub aliased : next_is w (a Kind.alias) at.node.0 e ≡ true → Kept d at (text_at w p at.node.0) d' q → Past w q b
       → Kept d' b (0x3A ∷ 0x20 ∷ []) d'' r → Did w p s n e alias d at d'' r
-  unfolding ruleOf
+  unfolding rule_of
   aliased z x y l =
-      a-child (child (a Kind.alias) ++ token ":" ++ sp) j (a Kind.alias) z
-      (leaf-child Kind.alias j z (name-is-text w p at.node.0 s (ap ruleOf (next-kind w Kind.alias at.node.0 e z))) x y
-      ⨾ did-tokens (token ":" ++ sp) refl l)
+      a_child (child (a Kind.alias) ++ token ":" ++ sp) j (a Kind.alias) z
+      (leaf_child Kind.alias j z (name_is_text w p at.node.0 s (ap rule_of (next_kind w Kind.alias at.node.0 e z))) x y
+      ⨾ did_tokens (token ":" ++ sp) refl l)
 
 -- ---- whether a node has a text
 
-pub no-text-there : (w p : List ℕ) (i : ℕ) {k : ℕ} → k ≡ length_at w i → k ≡ 0 → is_empty (textAt w p i) ≡ true
-unfolding textAt
-no-text-there w p i z y = let e : length_at w i ≡ 0 = omega (arith, z, y) in rw e
+pub no_text_there : (w p : List ℕ) (i : ℕ) {k : ℕ} → k ≡ length_at w i → k ≡ 0 → is_empty (text_at w p i) ≡ true
+unfolding text_at
+no_text_there w p i z y = let e : length_at w i ≡ 0 = omega (arith, z, y) in rw e
 
-not-empty : (xs : List ℕ) → 0 < length xs → is_empty xs ≡ false
-not-empty [] h = absurd (omega arith)
-not-empty (x ∷ xs) h = refl
+not_empty : (xs : List ℕ) → 0 < length xs → is_empty xs ≡ false
+not_empty [] h = absurd (omega arith)
+not_empty (x ∷ xs) h = refl
 
-pub text-there : (w p : List ℕ) (i : ℕ) {k : ℕ} → TextInPool w p i → k ≡ length_at w i → (k ≡ 0 → ⊥) → is_empty (textAt w p i) ≡ false
-unfolding textAt
-text-there w p i t z y =
-    not-empty (take (length_at w i) (drop (start_at w i) p))
-    (omega (arith, z, y, t.inPool, length-take (length_at w i) (drop (start_at w i) p), length-drop (start_at w i) p))
+pub text_there : (w p : List ℕ) (i : ℕ) {k : ℕ} → TextInPool w p i → k ≡ length_at w i → (k ≡ 0 → ⊥) → is_empty (text_at w p i) ≡ false
+unfolding text_at
+text_there w p i t z y =
+    not_empty (take (length_at w i) (drop (start_at w i) p))
+    (omega (arith, z, y, t.in_pool, length-take (length_at w i) (drop (start_at w i) p), length-drop (start_at w i) p))

@@ -2,14 +2,14 @@
 ghost use Rattle.std.specs.Prelude.{◌≡◌, true, List, [], ◌∷◌, ◌++◌, ℕ};
 ghost use Rattle.meaning.specs.Literal.{literal};
 ghost use Rattle.meaning.specs.Settings.{Settings};
-ghost use Rattle.meaning.specs.Table.{textAt};
-ghost use Rattle.meaning.specs.Rules.{Part, text, ifNamed, ifOne, description, operationType, locationName, ruleOf};
+ghost use Rattle.meaning.specs.Table.{text_at};
+ghost use Rattle.meaning.specs.Rules.{Part, text, if_named, if_one, description, operation_type, location_name, rule_of};
 ghost use Rattle.meaning.specs.Children.{a};
 ghost use Rattle.table.specs.Words.{InTable, TextInPool};
 ghost use Rattle.layout.specs.Written.{under, Kept};
-ghost use Rattle.layout.specs.Kids.{nextIs};
+ghost use Rattle.layout.specs.Kids.{next_is};
 ghost use Rattle.layout.specs.Jobs.{Ranged};
-ghost use Rattle.layout.specs.Did.{Did, allPlain, bytes};
+ghost use Rattle.layout.specs.Did.{Did, all_plain, bytes};
 ghost use Rattle.quoted.specs.Classes.{classes};
 ghost use Rattle.leaves.specs.Leaves.{alias, boolean};
 
@@ -33,7 +33,7 @@ pub fn string_value(
     at: Walk,
 ) -> Walk
     requires { TextInPool words.now pool.now node.0 × (table.now ≡ classes) }
-    ensures { Kept out.old at (literal (under state prefix.now) descriptive (textAt words.now pool.now node.0)) out.new result }
+    ensures { Kept out.old at (literal (under state prefix.now) descriptive (text_at words.now pool.now node.0)) out.new result }
 {
     let i = at.node;
     let p = literal::serialize_string_value(
@@ -60,7 +60,7 @@ fn described(
     out: &mut [u8],
     at: Walk,
 ) -> Walk
-    requires { Ranged words.now pool.now at.node.0 to.0 × (table.now ≡ classes) × (nextIs words.now (a 18) at.node.0 to.0 ≡ true) }
+    requires { Ranged words.now pool.now at.node.0 to.0 × (table.now ≡ classes) × (next_is words.now (a 18) at.node.0 to.0 ≡ true) }
     ensures { (n : ℕ) → Did words.now pool.now (under state prefix.now) n to.0 description out.old at out.new result }
 {
     let child = at.node;
@@ -113,7 +113,7 @@ pub fn if_named(
     at: Walk,
 ) -> Walk
     requires { TextInPool words.now pool.now node.0 }
-    ensures { (s : Settings) (e : ℕ) (ps : List Part) → allPlain ps ≡ true → bytes ps ≡ before.now → Did words.now pool.now s node.0 e (ifNamed (ps ++ text ∷ [])) out.old at out.new result }
+    ensures { (s : Settings) (e : ℕ) (ps : List Part) → all_plain ps ≡ true → bytes ps ≡ before.now → Did words.now pool.now s node.0 e (if_named (ps ++ text ∷ [])) out.old at out.new result }
 {
     if table::length(words, node) == 0 {
         return at;
@@ -125,7 +125,7 @@ pub fn if_named(
 // The token, where the node's variant is 1: `!`, ` repeatable`.
 pub fn if_one(words: &[u32], node: NodeNumber, token: &[u8], out: &mut [u8], at: Walk) -> Walk
     requires { InTable words.now node.0 }
-    ensures { (p : List ℕ) (s : Settings) (e : ℕ) (ps : List Part) → allPlain ps ≡ true → bytes ps ≡ token.now → Did words.now p s node.0 e (ifOne ps) out.old at out.new result }
+    ensures { (p : List ℕ) (s : Settings) (e : ℕ) (ps : List Part) → all_plain ps ≡ true → bytes ps ≡ token.now → Did words.now p s node.0 e (if_one ps) out.old at out.new result }
 {
     if table::variant(words, node) == 1 {
         return layout::token(out, at, token);
@@ -135,7 +135,7 @@ pub fn if_one(words: &[u32], node: NodeNumber, token: &[u8], out: &mut [u8], at:
 
 pub fn operation_type(words: &[u32], node: NodeNumber, out: &mut [u8], at: Walk) -> Walk
     requires { InTable words.now node.0 }
-    ensures { (p : List ℕ) (s : Settings) (e : ℕ) → Did words.now p s node.0 e operationType out.old at out.new result }
+    ensures { (p : List ℕ) (s : Settings) (e : ℕ) → Did words.now p s node.0 e operation_type out.old at out.new result }
 {
     match table::variant(words, node) {
         0 => layout::token(out, at, b"query"),
@@ -159,7 +159,7 @@ pub fn boolean(words: &[u32], node: NodeNumber, out: &mut [u8], at: Walk) -> Wal
 // The name of a directive location.
 pub fn location(words: &[u32], node: NodeNumber, out: &mut [u8], at: Walk) -> Walk
     requires { InTable words.now node.0 }
-    ensures { (p : List ℕ) (s : Settings) (e : ℕ) → Did words.now p s node.0 e locationName out.old at out.new result }
+    ensures { (p : List ℕ) (s : Settings) (e : ℕ) → Did words.now p s node.0 e location_name out.old at out.new result }
 {
     match table::variant(words, node) {
         0 => layout::token(out, at, b"QUERY"),
@@ -194,7 +194,7 @@ pub fn root_operation(
     at: Walk,
 ) -> Walk
     requires { TextInPool words.now pool.now node.0 }
-    ensures { (s : Settings) (e : ℕ) → Did words.now pool.now s node.0 e (ruleOf 25) out.old at out.new result }
+    ensures { (s : Settings) (e : ℕ) → Did words.now pool.now s node.0 e (rule_of 25) out.old at out.new result }
 {
     let a = operation_type(words, node, out, at);
     let b = layout::token(out, a, b": ");
@@ -209,7 +209,7 @@ pub fn variable_value(
     at: Walk,
 ) -> Walk
     requires { TextInPool words.now pool.now node.0 }
-    ensures { (s : Settings) (e : ℕ) → Did words.now pool.now s node.0 e (ruleOf 39) out.old at out.new result }
+    ensures { (s : Settings) (e : ℕ) → Did words.now pool.now s node.0 e (rule_of 39) out.old at out.new result }
 {
     let a = layout::token(out, at, b"$");
     layout::name(words, pool, node, out, a)

@@ -3,52 +3,52 @@ use Rattle.std.specs.Prelude.{◌≡◌, refl, Bool, true, false, not, List, ◌
 use Rattle.std.proofs.Math.Path.{sym}
 use Rattle.std.proofs.Common.{◌∙◌, ap, arith}
 use borrow.Author.Tests.{lt-ltb, le-ltb, leb-true, leb-false}
-use Rattle.base.specs.Bools.{not-true, not-false}
+use Rattle.base.specs.Bools.{not_true, not_false}
 use Rattle.meaning.specs.Ascii.{if◌then◌else◌}
 use Rattle.meaning.specs.Utf8.{utf8}
-use Rattle.meaning.specs.Settings.{Settings, literalLevels, settingsFault}
+use Rattle.meaning.specs.Settings.{Settings, literal_levels, settings_fault}
 use Rattle.meaning.specs.Literal.{literal}
-use Rattle.meaning.specs.Refusals.{valueSizeFault}
+use Rattle.meaning.specs.Refusals.{value_size_fault}
 use Rattle.meaning.specs.Answers.{Answer, answer}
-use Rattle.meaning.specs.Entries.{written, printedLiteral}
+use Rattle.meaning.specs.Entries.{written, printed_literal}
 use Rattle.meaning.specs.Demand.{Printable}
-use Rattle.demand.specs.Three.{printed-is-written, written-fits, written-short}
+use Rattle.demand.specs.Three.{printed_is_written, written_fits, written_short}
 use Rattle.pen.specs.declared.Pen.{Pen}
-use Rattle.pen.specs.Wrote.{AtStart, Wrote, wrote-front}
+use Rattle.pen.specs.Wrote.{AtStart, Wrote, wrote_front}
 use Rattle.literal.specs.declared.Fit.{Fit}
 use Rattle.literal.specs.declared.Fit.TheVariants.{Yes, Needs}
-use Rattle.literal.specs.Chosen.{fitOf}
+use Rattle.literal.specs.Chosen.{fit_of}
 
 module _ (s : Settings) (d : Bool) (v out : List ℕ) where
-  pub refuses-settings : (f : Bool) → f ≡ settingsFault literalLevels s → f ≡ true → (answer 1 0 0, out) ≡ printedLiteral s d v out
-  unfolding printedLiteral
-  refuses-settings f e t = rw (sym e ∙ t)
+  pub refuses_settings : (f : Bool) → f ≡ settings_fault literal_levels s → f ≡ true → (answer 1 0 0, out) ≡ printed_literal s d v out
+  unfolding printed_literal
+  refuses_settings f e t = rw (sym e ∙ t)
 
-  module _ (f : Bool) (e : f ≡ settingsFault literalLevels s) (z : f ≡ false) where
-    pub refuses-size : 65536 < length v → (answer 2 0 0, out) ≡ printedLiteral s d v out
-    unfolding printedLiteral
-    refuses-size h = rw (sym e ∙ z, lt-ltb 65536 (length v) h)
+  module _ (f : Bool) (e : f ≡ settings_fault literal_levels s) (z : f ≡ false) where
+    pub refuses_size : 65536 < length v → (answer 2 0 0, out) ≡ printed_literal s d v out
+    unfolding printed_literal
+    refuses_size h = rw (sym e ∙ z, lt-ltb 65536 (length v) h)
 
     module _ (h : length v ≤ 65536) (u : Bool) (k : u ≡ utf8 v) where
-      pub refuses-text : not u ≡ true → (answer 7 0 0, out) ≡ printedLiteral s d v out
-      unfolding printedLiteral
-      refuses-text t = rw (sym e ∙ z, le-ltb 65536 (length v) h, sym k ∙ not-true u t)
+      pub refuses_text : not u ≡ true → (answer 7 0 0, out) ≡ printed_literal s d v out
+      unfolding printed_literal
+      refuses_text t = rw (sym e ∙ z, le-ltb 65536 (length v) h, sym k ∙ not_true u t)
 
-pub printable : (s : Settings) (v : List ℕ) (f : Bool) → f ≡ settingsFault literalLevels s → f ≡ false → length v ≤ 65536 → (u : Bool) → u ≡ utf8 v → not u ≡ false → Printable s v
-unfolding valueSizeFault
-printable s v f e z h u k t = record { settingsFine = sym e ∙ z; sizeFine = le-ltb 65536 (length v) h; isUtf8 = sym k ∙ not-false u t }
+pub printable : (s : Settings) (v : List ℕ) (f : Bool) → f ≡ settings_fault literal_levels s → f ≡ false → length v ≤ 65536 → (u : Bool) → u ≡ utf8 v → not u ≡ false → Printable s v
+unfolding value_size_fault
+printable s v f e z h u k t = record { settings_fine = sym e ∙ z; size_fine = le-ltb 65536 (length v) h; is_utf8 = sym k ∙ not_false u t }
 
--- what `fitOf` tells
-pub needs-more : (t : List ℕ) (room n : ℕ) → Needs n ≡ fitOf t room → (n ≡ length t) × (room < length t)
-unfolding fitOf
-needs-more t room n e = go (leb (length t) room) refl e
+-- what `fit_of` tells
+pub needs_more : (t : List ℕ) (room n : ℕ) → Needs n ≡ fit_of t room → (n ≡ length t) × (room < length t)
+unfolding fit_of
+needs_more t room n e = go (leb (length t) room) refl e
   where
     go : (x : Bool) → leb (length t) room ≡ x → Needs n ≡ (if x then Yes else Needs (length t)) → (n ≡ length t) × (room < length t)
     go true f e = let z : ◌≡◌ {A = ℕ} 0 1 = cc in absurd (omega arith)
     go false f e = (let z : n ≡ length t = cc in z, leb-false (length t) room f)
 
-pub has_room : (t : List ℕ) (room : ℕ) → Yes ≡ fitOf t room → length t ≤ room
-unfolding fitOf
+pub has_room : (t : List ℕ) (room : ℕ) → Yes ≡ fit_of t room → length t ≤ room
+unfolding fit_of
 has_room t room e = go (leb (length t) room) refl e
   where
     go : (x : Bool) → leb (length t) room ≡ x → Yes ≡ (if x then Yes else Needs (length t)) → length t ≤ room
@@ -57,13 +57,13 @@ has_room t room e = go (leb (length t) room) refl e
 
 -- the literal does not fit, or is written
 module _ (s : Settings) (d : Bool) (v out t : List ℕ) (p : Printable s v) (l : t ≡ literal s d v) where
-  pub refuses-room : (n : ℕ) → Needs n ≡ fitOf t (length out) → (answer 8 0 n, out) ≡ printedLiteral s d v out
-  refuses-room n e =
-      let k = needs-more t (length out) n e in
-      rw (k.0, l) (sym (printed-is-written s d v p out ∙ written-short (literal s d v) out (rw l at k.1)))
+  pub refuses_room : (n : ℕ) → Needs n ≡ fit_of t (length out) → (answer 8 0 n, out) ≡ printed_literal s d v out
+  refuses_room n e =
+      let k = needs_more t (length out) n e in
+      rw (k.0, l) (sym (printed_is_written s d v p out ∙ written_short (literal s d v) out (rw l at k.1)))
 
-  pub prints : {q : Pen} {out' : List ℕ} {r : Pen} → Yes ≡ fitOf t (length out) → AtStart q → Wrote out q t out' r → (answer 0 0 r.at.0, out') ≡ printedLiteral s d v out
+  pub prints : {q : Pen} {out' : List ℕ} {r : Pen} → Yes ≡ fit_of t (length out) → AtStart q → Wrote out q t out' r → (answer 0 0 r.at.0, out') ≡ printed_literal s d v out
   prints {q} {out'} {r} e a w =
       let k = has_room t (length out) e in
-      let f = wrote-front a w k in
-      rw (f.0, f.1, l) (sym (printed-is-written s d v p out ∙ written-fits (literal s d v) out (rw l at k)))
+      let f = wrote_front a w k in
+      rw (f.0, f.1, l) (sym (printed_is_written s d v p out ∙ written_fits (literal s d v) out (rw l at k)))

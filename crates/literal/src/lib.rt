@@ -1,14 +1,14 @@
 // One string literal, printed into lent memory.
 ghost use Rattle.std.specs.Prelude.{◌≡◌, true, false, ◌&&◌, ◌||◌, ◌+◌, ◌*◌, ◌≤◌, length};
-ghost use Rattle.meaning.specs.Ascii.{lineFeed};
+ghost use Rattle.meaning.specs.Ascii.{line_feed};
 ghost use Rattle.meaning.specs.Settings.{settings, times};
-ghost use Rattle.meaning.specs.Block.{has, canBeBlockString};
+ghost use Rattle.meaning.specs.Block.{has, can_be_block_string};
 ghost use Rattle.meaning.specs.Literal.{literal};
-ghost use Rattle.meaning.specs.Answers.{printedAnswer};
-ghost use Rattle.meaning.specs.Entries.{printedLiteral};
+ghost use Rattle.meaning.specs.Answers.{printed_answer};
+ghost use Rattle.meaning.specs.Entries.{printed_literal};
 ghost use Rattle.pen.specs.Wrote.{Wrote};
 ghost use Rattle.quoted.specs.Classes.{classes};
-ghost use Rattle.literal.specs.Chosen.{chosen, fitOf};
+ghost use Rattle.literal.specs.Chosen.{chosen, fit_of};
 
 const LEVELS: usize = 128;
 
@@ -16,7 +16,7 @@ const LONGEST_VALUE: usize = 65536;
 
 // Block form needs breaks, a description or a line feed, and a value that a block string can stand for.
 fn takes_block(breaks: bool, description: bool, value: &[u8]) -> bool
-    ensures { result ≡ (breaks && ((description || has lineFeed value.now) && canBeBlockString value.now)) }
+    ensures { result ≡ (breaks && ((description || has line_feed value.now) && can_be_block_string value.now)) }
 {
     if !breaks {
         return false;
@@ -94,7 +94,7 @@ fn fits(
     room: usize,
 ) -> Fit
     requires { (table.now ≡ classes) × (length value.now ≤ 65536) × (length prefix.now ≤ 16) × (level ≤ 128) }
-    ensures { result ≡ fitOf (chosen blockwise (times level prefix.now) value.now) room }
+    ensures { result ≡ fit_of (chosen blockwise (times level prefix.now) value.now) room }
 {
     if surely_fits(blockwise, value.len(), room) {
         return Fit::Yes;
@@ -125,7 +125,7 @@ pub fn print_literal(
     level: usize,
     out: &mut [u8],
 ) -> meaning::Printed
-    ensures { (printedAnswer result, out.new) ≡ printedLiteral (settings breaks prefix.now level) description value.now out.old }
+    ensures { (printed_answer result, out.new) ≡ printed_literal (settings breaks prefix.now level) description value.now out.old }
 {
     if settings::settings_fault(LEVELS, breaks, prefix, level) {
         return meaning::Printed::Refused(meaning::Refusal::Settings);

@@ -3,66 +3,66 @@
 use Rattle.std.specs.Prelude.{◌≡◌, refl, Bool, true, false, ◌||◌, List, [], ◌∷◌, ◌++◌, ℕ, eqb, ltb, length}
 use Rattle.std.proofs.Math.Option.{some}
 use Rattle.base.specs.Bools.{or_left_false, or_right_false}
-use Rattle.meaning.specs.Ascii.{if◌then◌else◌, lineFeed, quote, backslash, tripleQuote}
+use Rattle.meaning.specs.Ascii.{if◌then◌else◌, line_feed, quote, backslash, triple_quote}
 use Rattle.meaning.specs.Settings.{blank}
-use Rattle.meaning.specs.Block.{lines, has, canBeBlockString, lastByte, multiLine, escapedLine, block_lines, blockString, blockStringValue}
-use Rattle.meaning.specs.Reading.{value, blockForm, stringValue}
-use Rattle.literal_laws.specs.BlockExactly.{rule-needs-a-byte}
-use Rattle.literal_laws.specs.BlockCharacters.{blockText}
-use Rattle.literal_laws.specs.BlockText.{rawOf, several-lines-read, one-line-read}
-use Rattle.literal_laws.specs.BlockValue.{several-lines-value, one-line-value}
+use Rattle.meaning.specs.Block.{lines, has, can_be_block_string, last_byte, multi_line, escaped_line, block_lines, block_string, block_string_value}
+use Rattle.meaning.specs.Reading.{value, block_form, string_value}
+use Rattle.literal_laws.specs.BlockExactly.{rule_needs_a_byte}
+use Rattle.literal_laws.specs.BlockCharacters.{block_text}
+use Rattle.literal_laws.specs.BlockText.{raw_of, several_lines_read, one_line_read}
+use Rattle.literal_laws.specs.BlockValue.{several_lines_value, one_line_value}
 
 -- a text after three quotes is read as block text
-block-text-read : (x raw v : List ℕ) → blockText x ≡ some raw → blockStringValue raw ≡ v
-    → stringValue (tripleQuote ++ x) ≡ value blockForm v
-unfolding stringValue
-block-text-read x raw v e f = rw (e, f)
+block_text_read : (x raw v : List ℕ) → block_text x ≡ some raw → block_string_value raw ≡ v
+    → string_value (triple_quote ++ x) ≡ value block_form v
+unfolding string_value
+block_text_read x raw v e f = rw (e, f)
 
-several-lines-read-back : (ind v : List ℕ) → blank ind ≡ true → canBeBlockString v ≡ true
-    → stringValue (tripleQuote ++ (block_lines ind (lines v) ++ ((lineFeed ∷ ind) ++ tripleQuote))) ≡ value blockForm v
-several-lines-read-back ind v bl h =
-    block-text-read (block_lines ind (lines v) ++ ((lineFeed ∷ ind) ++ tripleQuote)) (rawOf ind (lines v) ++ (lineFeed ∷ ind)) v
-    (several-lines-read ind bl (lines v))
-    (several-lines-value ind v bl h)
+several_lines_read_back : (ind v : List ℕ) → blank ind ≡ true → can_be_block_string v ≡ true
+    → string_value (triple_quote ++ (block_lines ind (lines v) ++ ((line_feed ∷ ind) ++ triple_quote))) ≡ value block_form v
+several_lines_read_back ind v bl h =
+    block_text_read (block_lines ind (lines v) ++ ((line_feed ∷ ind) ++ triple_quote)) (raw_of ind (lines v) ++ (line_feed ∷ ind)) v
+    (several_lines_read ind bl (lines v))
+    (several_lines_value ind v bl h)
 
 -- what a value on one line has not
 record OneLine (v : List ℕ) : Type 0 where
-  noLf : has lineFeed v ≡ false
-  noQuote : eqb (lastByte v) quote ≡ false
-  noBackslash : eqb (lastByte v) backslash ≡ false
+  no_lf : has line_feed v ≡ false
+  no_quote : eqb (last_byte v) quote ≡ false
+  no_backslash : eqb (last_byte v) backslash ≡ false
 
-one-line-of : (v : List ℕ) → multiLine v ≡ false → OneLine v
-unfolding multiLine
-one-line-of v m =
+one_line_of : (v : List ℕ) → multi_line v ≡ false → OneLine v
+unfolding multi_line
+one_line_of v m =
     let long = ltb 70 (length v) in
-    let q = eqb (lastByte v) quote in
-    let b = eqb (lastByte v) backslash in
-    let m1 : long || (q || b) ≡ false = or_right_false (has lineFeed v) (long || (q || b)) m in
+    let q = eqb (last_byte v) quote in
+    let b = eqb (last_byte v) backslash in
+    let m1 : long || (q || b) ≡ false = or_right_false (has line_feed v) (long || (q || b)) m in
     let m2 : q || b ≡ false = or_right_false long (q || b) m1 in
     record {
-      noLf = or_left_false (has lineFeed v) (long || (q || b)) m;
-      noQuote = or_left_false q b m2;
-      noBackslash = or_right_false q b m2;
+      no_lf = or_left_false (has line_feed v) (long || (q || b)) m;
+      no_quote = or_left_false q b m2;
+      no_backslash = or_right_false q b m2;
     }
 
-one-line-reads-back : (v : List ℕ) → canBeBlockString v ≡ true → OneLine v
-    → stringValue (tripleQuote ++ (escapedLine v ++ tripleQuote)) ≡ value blockForm v
-one-line-reads-back [] h o = absurd (rule-needs-a-byte [] h refl)
-one-line-reads-back (b ∷ v) h o =
-    block-text-read (escapedLine (b ∷ v) ++ tripleQuote) (b ∷ v) (b ∷ v)
-    (one-line-read b v o.noQuote o.noBackslash)
-    (one-line-value (b ∷ v) h o.noLf)
+one_line_reads_back : (v : List ℕ) → can_be_block_string v ≡ true → OneLine v
+    → string_value (triple_quote ++ (escaped_line v ++ triple_quote)) ≡ value block_form v
+one_line_reads_back [] h o = absurd (rule_needs_a_byte [] h refl)
+one_line_reads_back (b ∷ v) h o =
+    block_text_read (escaped_line (b ∷ v) ++ triple_quote) (b ∷ v) (b ∷ v)
+    (one_line_read b v o.no_quote o.no_backslash)
+    (one_line_value (b ∷ v) h o.no_lf)
 
-pub block-reads-back : (ind v : List ℕ) → blank ind ≡ true → canBeBlockString v ≡ true
-    → stringValue (blockString ind v) ≡ value blockForm v
-unfolding blockString
-block-reads-back ind v bl h = go (multiLine v) refl
+pub block_reads_back : (ind v : List ℕ) → blank ind ≡ true → can_be_block_string v ≡ true
+    → string_value (block_string ind v) ≡ value block_form v
+unfolding block_string
+block_reads_back ind v bl h = go (multi_line v) refl
   where
-    go : (x : Bool) → multiLine v ≡ x
-        → stringValue
+    go : (x : Bool) → multi_line v ≡ x
+        → string_value
         (if x
-        then tripleQuote ++ (block_lines ind (lines v) ++ ((lineFeed ∷ ind) ++ tripleQuote))
-        else tripleQuote ++ (escapedLine v ++ tripleQuote))
-        ≡ value blockForm v
-    go true e = several-lines-read-back ind v bl h
-    go false e = one-line-reads-back v h (one-line-of v e)
+        then triple_quote ++ (block_lines ind (lines v) ++ ((line_feed ∷ ind) ++ triple_quote))
+        else triple_quote ++ (escaped_line v ++ triple_quote))
+        ≡ value block_form v
+    go true e = several_lines_read_back ind v bl h
+    go false e = one_line_reads_back v h (one_line_of v e)

@@ -6,21 +6,21 @@ use Rattle.std.proofs.Common.{sym, ◌∙◌}
 use Rattle.std.proofs.Math.Option.{Option, none, some}
 use mathlib.Core.List.{List, [], ◌∷◌, ◌++◌, append_assoc}
 use Prim.Native.Nat.{ℕ, zero, suc}
-use Rattle.meaning.specs.Reading.{Front, character, closing, prepend, nothingMore, onFront, characters}
+use Rattle.meaning.specs.Reading.{Front, character, closing, prepend, nothing_more, on_front, characters}
 
-pub prepend-nothing : (o : Option (List ℕ)) → prepend [] o ≡ o
+pub prepend_nothing : (o : Option (List ℕ)) → prepend [] o ≡ o
 unfolding prepend
-prepend-nothing none = refl
-prepend-nothing (some v) = refl
+prepend_nothing none = refl
+prepend_nothing (some v) = refl
 
-pub prepend-twice : (t u : List ℕ) (o : Option (List ℕ)) → prepend t (prepend u o) ≡ prepend (t ++ u) o
+pub prepend_twice : (t u : List ℕ) (o : Option (List ℕ)) → prepend t (prepend u o) ≡ prepend (t ++ u) o
 unfolding prepend
-prepend-twice t u none = refl
-prepend-twice t u (some v) = ap some (sym (append_assoc t u v))
+prepend_twice t u none = refl
+prepend_twice t u (some v) = ap some (sym (append_assoc t u v))
 
-pub prepend-some : (t v : List ℕ) → prepend t (some v) ≡ some (t ++ v)
+pub prepend_some : (t v : List ℕ) → prepend t (some v) ≡ some (t ++ v)
 unfolding prepend
-prepend-some t v = refl
+prepend_some t v = refl
 
 module _ (front : List ℕ → Front) where
   -- k bytes are passed over
@@ -31,15 +31,15 @@ module _ (front : List ℕ → Front) where
   passed_over (suc k) (b ∷ s) = passed_over k s
 
   by_front : (f : Front) (b : ℕ) (s : List ℕ) → front (b ∷ s) ≡ f
-      → characters front 0 (b ∷ s) ≡ onFront f s (λ k. characters front k s)
+      → characters front 0 (b ∷ s) ≡ on_front f s (λ k. characters front k s)
   unfolding characters
   by_front f b s e = rw e
 
   -- a character of 1 + k bytes that stands for t
-  pub character-read : (t : List ℕ) (k b : ℕ) (s : List ℕ) → front (b ∷ s) ≡ character t k
+  pub character_read : (t : List ℕ) (k b : ℕ) (s : List ℕ) → front (b ∷ s) ≡ character t k
       → characters front 0 (b ∷ s) ≡ prepend t (characters front 0 (drop k s))
-  character-read t k b s e = by_front (character t k) b s e ∙ (unfold onFront in ap (prepend t) (passed_over k s))
+  character_read t k b s e = by_front (character t k) b s e ∙ (unfold on_front in ap (prepend t) (passed_over k s))
 
   -- closing quotes of 1 + k bytes
-  pub closing-read : (k b : ℕ) (s : List ℕ) → front (b ∷ s) ≡ closing k → characters front 0 (b ∷ s) ≡ nothingMore (drop k s)
-  closing-read k b s e = by_front (closing k) b s e ∙ (unfold onFront in refl)
+  pub closing_read : (k b : ℕ) (s : List ℕ) → front (b ∷ s) ≡ closing k → characters front 0 (b ∷ s) ≡ nothing_more (drop k s)
+  closing_read k b s e = by_front (closing k) b s e ∙ (unfold on_front in refl)

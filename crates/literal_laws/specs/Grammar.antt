@@ -7,8 +7,8 @@ use mathlib.Core.List.{List, [], ◌∷◌, ◌++◌, append-nil}
 use Prim.Native.Nat.{ℕ, zero, suc}
 use Rattle.std.proofs.Math.ListN.{drop}
 use Rattle.base.specs.Bools.{clash}
-use Rattle.meaning.specs.Reading.{Front, character, closing, wrong, prepend, nothingMore, onFront, characters}
-use Rattle.literal_laws.specs.Characters.{prepend-some}
+use Rattle.meaning.specs.Reading.{Front, character, closing, wrong, prepend, nothing_more, on_front, characters}
+use Rattle.literal_laws.specs.Characters.{prepend_some}
 
 -- "StringCharacter*" or "BlockStringCharacter*" and the closing quotes, with the bytes that they stand for. `One t u s` says that
 -- the bytes t are one character where s follows, and stand for u.
@@ -33,50 +33,50 @@ abbrev is_some : Option (List ℕ) → Bool
 is_some none = false
 is_some (some v) = true
 
-none-is-not-some : {X : Type 0} {v : List ℕ} → ◌≡◌ {A = Option (List ℕ)} none (some v) → X
-none-is-not-some h = clash refl (ap is_some (sym h))
+none_is_not_some : {X : Type 0} {v : List ℕ} → ◌≡◌ {A = Option (List ℕ)} none (some v) → X
+none_is_not_some h = clash refl (ap is_some (sym h))
 
-same-inside : {v w : List ℕ} → ◌≡◌ {A = Option (List ℕ)} (some v) (some w) → v ≡ w
-same-inside h = cc
+same_inside : {v w : List ℕ} → ◌≡◌ {A = Option (List ℕ)} (some v) (some w) → v ≡ w
+same_inside h = cc
 
 -- what stands behind a `prepend`
 prepended : (u : List ℕ) (o : Option (List ℕ)) (v : List ℕ) → prepend u o ≡ some v → (w : List ℕ) × (o ≡ some w) × (u ++ w ≡ v)
 unfolding prepend
-prepended u none v h = none-is-not-some h
-prepended u (some w) v h = (w, refl, same-inside h)
+prepended u none v h = none_is_not_some h
+prepended u (some w) v h = (w, refl, same_inside h)
 
-pub nothing_left : (s v : List ℕ) → nothingMore s ≡ some v → (s ≡ []) × (v ≡ [])
-unfolding nothingMore
-nothing_left [] v h = (refl, sym (same-inside h))
-nothing_left (b ∷ s) v h = none-is-not-some h
+pub nothing_left : (s v : List ℕ) → nothing_more s ≡ some v → (s ≡ []) × (v ≡ [])
+unfolding nothing_more
+nothing_left [] v h = (refl, sym (same_inside h))
+nothing_left (b ∷ s) v h = none_is_not_some h
 
 module _ (front : List ℕ → Front) (One : List ℕ → List ℕ → List ℕ → Type 0) (quotes : List ℕ) (agrees : Agrees front One quotes) where
-  same_text : {s s' v v' : List ℕ} → Characters One quotes s v → s ≡ s' → v ≡ v' → Characters One quotes s' v'
-  same_text {s} {s'} {v} {v'} g e f =
+  same_text_lem : {s s' v v' : List ℕ} → Characters One quotes s v → s ≡ s' → v ≡ v' → Characters One quotes s' v'
+  same_text_lem {s} {s'} {v} {v'} g e f =
       subst (λ (x : List ℕ). Characters One quotes s' x) f (subst (λ (x : List ℕ). Characters One quotes x v) e g)
 
-  pub grammar-is-read : {s v : List ℕ} → Characters One quotes s v → characters front 0 s ≡ some v
-  grammar-is-read close = agrees.closes
-  grammar-is-read (more {t} {u} {s} {v} o g) = agrees.reads t u s o ∙ rw (grammar-is-read g) (prepend-some u v)
+  pub grammar_is_read : {s v : List ℕ} → Characters One quotes s v → characters front 0 s ≡ some v
+  grammar_is_read close = agrees.closes
+  grammar_is_read (more {t} {u} {s} {v} o g) = agrees.reads t u s o ∙ rw (grammar_is_read g) (prepend_some u v)
 
   by_front : (f : Front) (b : ℕ) (s v : List ℕ) → Says One quotes b s f
       → ((k : ℕ) (w : List ℕ) → characters front k s ≡ some w → Characters One quotes (drop k s) w)
-      → onFront f s (λ k. characters front k s) ≡ some v → Characters One quotes (b ∷ s) v
-  unfolding onFront
+      → on_front f s (λ k. characters front k s) ≡ some v → Characters One quotes (b ∷ s) v
+  unfolding on_front
   by_front (character u k) b s v c ih h =
       let p = prepended u (characters front k s) v h in
-      same_text (more c.1 (ih k p.0 p.1)) c.2 p.2
+      same_text_lem (more c.1 (ih k p.0 p.1)) c.2 p.2
   by_front (closing k) b s v c ih h =
       let n = nothing_left (drop k s) v h in
       let e : quotes ++ drop k s ≡ quotes = rw n.0 (append-nil quotes) in
-      same_text close (sym e ∙ c) (sym n.1)
-  by_front wrong b s v c ih h = none-is-not-some h
+      same_text_lem close (sym e ∙ c) (sym n.1)
+  by_front wrong b s v c ih h = none_is_not_some h
 
-  read-after : (k : ℕ) (s v : List ℕ) → characters front k s ≡ some v → Characters One quotes (drop k s) v
+  read_after : (k : ℕ) (s v : List ℕ) → characters front k s ≡ some v → Characters One quotes (drop k s) v
   unfolding characters
-  read-after k [] v h = none-is-not-some h
-  read-after zero (b ∷ s) v h = by_front (front (b ∷ s)) b s v (agrees.says b s) (λ k w. read-after k s w) h
-  read-after (suc k) (b ∷ s) v h = read-after k s v h
+  read_after k [] v h = none_is_not_some h
+  read_after zero (b ∷ s) v h = by_front (front (b ∷ s)) b s v (agrees.says b s) (λ k w. read_after k s w) h
+  read_after (suc k) (b ∷ s) v h = read_after k s v h
 
-  pub characters-are-the-grammar : (s v : List ℕ) → (characters front 0 s ≡ some v) ↔ Characters One quotes s v
-  characters-are-the-grammar s v = (read-after 0 s v, grammar-is-read)
+  pub characters_are_the_grammar : (s v : List ℕ) → (characters front 0 s ≡ some v) ↔ Characters One quotes s v
+  characters_are_the_grammar s v = (read_after 0 s v, grammar_is_read)

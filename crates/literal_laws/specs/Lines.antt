@@ -3,58 +3,58 @@ use Rattle.std.specs.Prelude.{◌≡◌, Bool, true, false, List, [], ◌∷◌,
 use Rattle.std.proofs.Math.Path.{refl}
 use Rattle.std.proofs.Common.{◌∙◌, eqb-true}
 use Rattle.base.specs.Bools.{or_left_false, or_right_false}
-use Rattle.meaning.specs.Ascii.{if◌then◌else◌, lineFeed, carriageReturn}
-use Rattle.meaning.specs.Block.{onto, lines, has, rawLines, joined}
+use Rattle.meaning.specs.Ascii.{if◌then◌else◌, line_feed, carriage_return}
+use Rattle.meaning.specs.Block.{onto, lines, has, raw_lines, joined}
 
 -- there is a line
 abbrev pub Some : List (List ℕ) → Type 0
 Some [] = ⊥
 Some (l ∷ ls) = Unit {0}
 
-onto-has-a-line : (b : ℕ) (ls : List (List ℕ)) → Some (onto b ls)
+onto_has_a_line : (b : ℕ) (ls : List (List ℕ)) → Some (onto b ls)
 unfolding onto
-onto-has-a-line b [] = tt
-onto-has-a-line b (l ∷ ls) = tt
+onto_has_a_line b [] = tt
+onto_has_a_line b (l ∷ ls) = tt
 
-pub there-is-a-line : (v : List ℕ) → Some (lines v)
+pub there_is_a_line : (v : List ℕ) → Some (lines v)
 unfolding lines
-there-is-a-line [] = tt
-there-is-a-line (b ∷ v) = go (eqb b lineFeed)
+there_is_a_line [] = tt
+there_is_a_line (b ∷ v) = go (eqb b line_feed)
   where
     go : (x : Bool) → Some (if x then [] ∷ lines v else onto b (lines v))
     go true = tt
-    go false = onto-has-a-line b (lines v)
+    go false = onto_has_a_line b (lines v)
 
-joined-onto : (b : ℕ) (ls : List (List ℕ)) → joined (onto b ls) ≡ b ∷ joined ls
+joined_onto : (b : ℕ) (ls : List (List ℕ)) → joined (onto b ls) ≡ b ∷ joined ls
 unfolding joined onto
-joined-onto b [] = refl
-joined-onto b (l ∷ []) = refl
-joined-onto b (l ∷ (m ∷ ls)) = refl
+joined_onto b [] = refl
+joined_onto b (l ∷ []) = refl
+joined_onto b (l ∷ (m ∷ ls)) = refl
 
-joined-after-empty : (ls : List (List ℕ)) → Some ls → joined ([] ∷ ls) ≡ lineFeed ∷ joined ls
+joined_after_empty : (ls : List (List ℕ)) → Some ls → joined ([] ∷ ls) ≡ line_feed ∷ joined ls
 unfolding joined
-joined-after-empty [] o = absurd o
-joined-after-empty (l ∷ ls) o = refl
+joined_after_empty [] o = absurd o
+joined_after_empty (l ∷ ls) o = refl
 
-pub lines-joined : (v : List ℕ) → joined (lines v) ≡ v
+pub lines_joined : (v : List ℕ) → joined (lines v) ≡ v
 unfolding lines
-lines-joined [] = unfold joined in refl
-lines-joined (b ∷ v) = go (eqb b lineFeed) refl (lines-joined v)
+lines_joined [] = unfold joined in refl
+lines_joined (b ∷ v) = go (eqb b line_feed) refl (lines_joined v)
   where
-    go : (x : Bool) → eqb b lineFeed ≡ x → joined (lines v) ≡ v → joined (if x then [] ∷ lines v else onto b (lines v)) ≡ b ∷ v
-    go true e ih = joined-after-empty (lines v) (there-is-a-line v) ∙ rw (ih, eqb-true b lineFeed e)
-    go false e ih = joined-onto b (lines v) ∙ rw ih
+    go : (x : Bool) → eqb b line_feed ≡ x → joined (lines v) ≡ v → joined (if x then [] ∷ lines v else onto b (lines v)) ≡ b ∷ v
+    go true e ih = joined_after_empty (lines v) (there_is_a_line v) ∙ rw (ih, eqb-true b line_feed e)
+    go false e ih = joined_onto b (lines v) ∙ rw ih
 
-pub one_line : (v : List ℕ) → has lineFeed v ≡ false → lines v ≡ v ∷ []
+pub one_line : (v : List ℕ) → has line_feed v ≡ false → lines v ≡ v ∷ []
 unfolding has lines
 one_line [] h = refl
 one_line (b ∷ v) h =
-    let e = or_left_false (eqb b lineFeed) (has lineFeed v) h in
-    rw (e, one_line v (or_right_false (eqb b lineFeed) (has lineFeed v) h))
+    let e = or_left_false (eqb b line_feed) (has line_feed v) h in
+    rw (e, one_line v (or_right_false (eqb b line_feed) (has line_feed v) h))
 
-pub raw-lines-without-cr : (v : List ℕ) → has carriageReturn v ≡ false → rawLines v ≡ lines v
-unfolding rawLines has lines
-raw-lines-without-cr [] h = refl
-raw-lines-without-cr (b ∷ v) h =
-    let e = or_left_false (eqb b carriageReturn) (has carriageReturn v) h in
-    rw (e, raw-lines-without-cr v (or_right_false (eqb b carriageReturn) (has carriageReturn v) h))
+pub raw_lines_without_cr : (v : List ℕ) → has carriage_return v ≡ false → raw_lines v ≡ lines v
+unfolding raw_lines has lines
+raw_lines_without_cr [] h = refl
+raw_lines_without_cr (b ∷ v) h =
+    let e = or_left_false (eqb b carriage_return) (has carriage_return v) h in
+    rw (e, raw_lines_without_cr v (or_right_false (eqb b carriage_return) (has carriage_return v) h))

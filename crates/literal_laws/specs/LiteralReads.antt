@@ -3,52 +3,52 @@
 use Rattle.std.specs.Prelude.{◌≡◌, Bool, true, false, ◌&&◌, ◌||◌, List, [], ◌∷◌, ◌++◌, ℕ, zero, suc}
 use Rattle.std.proofs.Math.Path.{refl}
 use Rattle.base.specs.Bools.{and_left, and_right, and_both}
-use Rattle.meaning.specs.Ascii.{if◌then◌else◌, lineFeed}
+use Rattle.meaning.specs.Ascii.{if◌then◌else◌, line_feed}
 use Rattle.meaning.specs.Utf8.{utf8}
-use Rattle.meaning.specs.Settings.{Settings, isBlank, blank, times, indentation}
+use Rattle.meaning.specs.Settings.{Settings, is_blank, blank, times, indentation}
 use Rattle.meaning.specs.Quoted.{quoted}
-use Rattle.meaning.specs.Block.{has, canBeBlockString, blockString}
-use Rattle.meaning.specs.Literal.{takesBlock, literal}
-use Rattle.meaning.specs.Reading.{value, quotedForm, blockForm, stringValue, reading}
+use Rattle.meaning.specs.Block.{has, can_be_block_string, block_string}
+use Rattle.meaning.specs.Literal.{takes_block, literal}
+use Rattle.meaning.specs.Reading.{value, quoted_form, block_form, string_value, reading}
 use Rattle.meaning.specs.Demand.{form_of}
-use Rattle.literal_laws.specs.QuotedReads.{quoted-reads-back}
-use Rattle.literal_laws.specs.BlockReads.{block-reads-back}
+use Rattle.literal_laws.specs.QuotedReads.{quoted_reads_back}
+use Rattle.literal_laws.specs.BlockReads.{block_reads_back}
 
-appended-blank : (p q : List ℕ) → blank p ≡ true → blank q ≡ true → blank (p ++ q) ≡ true
+appended_blank : (p q : List ℕ) → blank p ≡ true → blank q ≡ true → blank (p ++ q) ≡ true
 unfolding blank
-appended-blank [] q h k = k
-appended-blank (b ∷ p) q h k =
-    and_both (isBlank b) (blank (p ++ q)) (and_left (isBlank b) (blank p) h) (appended-blank p q (and_right (isBlank b) (blank p) h) k)
+appended_blank [] q h k = k
+appended_blank (b ∷ p) q h k =
+    and_both (is_blank b) (blank (p ++ q)) (and_left (is_blank b) (blank p) h) (appended_blank p q (and_right (is_blank b) (blank p) h) k)
 
-times-blank : (n : ℕ) (p : List ℕ) → blank p ≡ true → blank (times n p) ≡ true
+times_blank : (n : ℕ) (p : List ℕ) → blank p ≡ true → blank (times n p) ≡ true
 unfolding times
-times-blank zero p h = unfold blank in refl
-times-blank (suc n) p h = appended-blank p (times n p) h (times-blank n p h)
+times_blank zero p h = unfold blank in refl
+times_blank (suc n) p h = appended_blank p (times n p) h (times_blank n p h)
 
-pub indentation-blank : (s : Settings) → blank s.prefix ≡ true → blank (indentation s) ≡ true
+pub indentation_blank : (s : Settings) → blank s.prefix ≡ true → blank (indentation s) ≡ true
 unfolding indentation
-indentation-blank s h = times-blank s.level s.prefix h
+indentation_blank s h = times_blank s.level s.prefix h
 
-pub block-taken-keeps-rule : (s : Settings) (d : Bool) (v : List ℕ) → takesBlock s d v ≡ true → canBeBlockString v ≡ true
-unfolding takesBlock
-block-taken-keeps-rule s d v h =
-    let a = d || has lineFeed v in
-    and_right a (canBeBlockString v) (and_right s.breaks (a && canBeBlockString v) h)
+pub block_taken_keeps_rule : (s : Settings) (d : Bool) (v : List ℕ) → takes_block s d v ≡ true → can_be_block_string v ≡ true
+unfolding takes_block
+block_taken_keeps_rule s d v h =
+    let a = d || has line_feed v in
+    and_right a (can_be_block_string v) (and_right s.breaks (a && can_be_block_string v) h)
 
-pub literal-reads-back : (s : Settings) (d : Bool) (v : List ℕ) → blank s.prefix ≡ true
-    → stringValue (literal s d v) ≡ value (form_of s d v) v
+pub literal_reads_back : (s : Settings) (d : Bool) (v : List ℕ) → blank s.prefix ≡ true
+    → string_value (literal s d v) ≡ value (form_of s d v) v
 unfolding literal form_of
-literal-reads-back s d v h = go (takesBlock s d v) refl
+literal_reads_back s d v h = go (takes_block s d v) refl
   where
-    go : (x : Bool) → takesBlock s d v ≡ x
-        → stringValue (if x then blockString (indentation s) v else quoted v) ≡ value (if x then blockForm else quotedForm) v
-    go true e = block-reads-back (indentation s) v (indentation-blank s h) (block-taken-keeps-rule s d v e)
-    go false e = quoted-reads-back v
+    go : (x : Bool) → takes_block s d v ≡ x
+        → string_value (if x then block_string (indentation s) v else quoted v) ≡ value (if x then block_form else quoted_form) v
+    go true e = block_reads_back (indentation s) v (indentation_blank s h) (block_taken_keeps_rule s d v e)
+    go false e = quoted_reads_back v
 
 -- where the literal is UTF-8, its reading is that value
-pub reads-back-if : (s : Settings) (d : Bool) (v : List ℕ) → utf8 (literal s d v) ≡ true → blank s.prefix ≡ true
+pub reads_back_if : (s : Settings) (d : Bool) (v : List ℕ) → utf8 (literal s d v) ≡ true → blank s.prefix ≡ true
     → reading (literal s d v) ≡ value (form_of s d v) v
-reads-back-if s d v u h = by-utf8 (literal s d v) u (literal-reads-back s d v h)
+reads_back_if s d v u h = by_utf8 (literal s d v) u (literal_reads_back s d v h)
   where
-    by-utf8 : (text : List ℕ) → utf8 text ≡ true → stringValue text ≡ value (form_of s d v) v → reading text ≡ value (form_of s d v) v
-    by-utf8 text u e = unfold reading in rw (u, e)
+    by_utf8 : (text : List ℕ) → utf8 text ≡ true → string_value text ≡ value (form_of s d v) v → reading text ≡ value (form_of s d v) v
+    by_utf8 text u e = unfold reading in rw (u, e)

@@ -1,7 +1,7 @@
 // What printing and reading both look for in a text: spaces and tabs, three quotes.
 ghost use Rattle.std.specs.Prelude.{◌≡◌, drop};
-ghost use Rattle.meaning.specs.Settings.{isBlank};
-ghost use Rattle.meaning.specs.Block.{threeQuotes};
+ghost use Rattle.meaning.specs.Settings.{is_blank};
+ghost use Rattle.meaning.specs.Block.{three_quotes};
 
 const TAB: u8 = 0x09;
 
@@ -10,14 +10,14 @@ const SPACE: u8 = 0x20;
 const QUOTE: u8 = 0x22;
 
 pub fn is_blank(b: u8) -> bool
-    ensures { result ≡ isBlank b }
+    ensures { result ≡ is_blank b }
 {
     (b == SPACE) | (b == TAB)
 }
 
 // Three quotes stand at `i`.
 pub fn three_quotes(s: &[u8], i: usize) -> bool
-    ensures { result ≡ threeQuotes (drop i s.now) }
+    ensures { result ≡ three_quotes (drop i s.now) }
 {
     if s.len() < 3 {
         return false;

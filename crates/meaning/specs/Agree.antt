@@ -3,33 +3,33 @@
 use Rattle.std.specs.Prelude.{◌≡◌, refl, ℕ, zero, suc, ◌+◌, ◌-◌, ◌*◌, Bool, true, false, ◌&&◌, ◌||◌, List, [], ◌∷◌, eqb}
 use Rattle.meaning.specs.Ascii.{if◌then◌else◌}
 use Rattle.meaning.specs.Kind
-use Rattle.meaning.specs.Children.{Class, a, definition, selection, type, value, namedType, Slot, one, opt, any, some, Row, row_of}
-use Rattle.meaning.specs.Rules.{Part, tok, words, text, literal, space, newLineOrSpace, one as oneChild, spaced, separated, commaSeparated, curlyBrackets, ifNext, ifText, ifVariant, ruleOf}
+use Rattle.meaning.specs.Children.{Class, a, definition, selection, type, value, named_type, Slot, one, opt, any, some, Row, row_of}
+use Rattle.meaning.specs.Rules.{Part, tok, words, text, literal, space, new_line_or_space, one as one_child, spaced, separated, comma_separated, curly_brackets, if_next, if_text, if_variant, rule_of}
 use Rattle.meaning.specs.Text.{same}
 
 -- a class and a slot by number
-abbrev classNumber : Class → ℕ
-classNumber (a k) = k
-classNumber definition = 50
-classNumber selection = 51
-classNumber type = 52
-classNumber value = 53
-classNumber namedType = 54
+abbrev class_number : Class → ℕ
+class_number (a k) = k
+class_number definition = 50
+class_number selection = 51
+class_number type = 52
+class_number value = 53
+class_number named_type = 54
 
-abbrev slotNumber : Slot → ℕ
-slotNumber (one c) = classNumber c * 4
-slotNumber (opt c) = classNumber c * 4 + 1
-slotNumber (any c) = classNumber c * 4 + 2
-slotNumber (some c) = classNumber c * 4 + 3
+abbrev slot_number : Slot → ℕ
+slot_number (one c) = class_number c * 4
+slot_number (opt c) = class_number c * 4 + 1
+slot_number (any c) = class_number c * 4 + 2
+slot_number (some c) = class_number c * 4 + 3
 
 abbrev numbers : List Slot → List ℕ
 numbers [] = []
-numbers (s ∷ ss) = slotNumber s ∷ numbers ss
+numbers (s ∷ ss) = slot_number s ∷ numbers ss
 
 -- one, or at most one, and then any number of the same class
 abbrev joined : Class → Slot → Slot → List Slot → List Slot
 joined c alone many [] = alone ∷ []
-joined c alone many (any d ∷ ss) = if eqb (classNumber c) (classNumber d) then many ∷ ss else alone ∷ any d ∷ ss
+joined c alone many (any d ∷ ss) = if eqb (class_number c) (class_number d) then many ∷ ss else alone ∷ any d ∷ ss
 joined c alone many (one d ∷ ss) = alone ∷ one d ∷ ss
 joined c alone many (opt d ∷ ss) = alone ∷ opt d ∷ ss
 joined c alone many (some d ∷ ss) = alone ∷ some d ∷ ss
@@ -42,26 +42,26 @@ slots k (words ts ∷ ps) = slots (k - 1) ps
 slots k (text ∷ ps) = slots (k - 1) ps
 slots k (literal d ∷ ps) = slots (k - 1) ps
 slots k (space ∷ ps) = slots (k - 1) ps
-slots k (newLineOrSpace ∷ ps) = slots (k - 1) ps
-slots zero (oneChild c ∷ ps) = joined c (one c) (some c) (slots 0 ps)
-slots (suc k) (oneChild c ∷ ps) = joined c (opt c) (any c) (slots k ps)
+slots k (new_line_or_space ∷ ps) = slots (k - 1) ps
+slots zero (one_child c ∷ ps) = joined c (one c) (some c) (slots 0 ps)
+slots (suc k) (one_child c ∷ ps) = joined c (opt c) (any c) (slots k ps)
 slots k (spaced c ∷ ps) = any c ∷ slots (k - 1) ps
 slots k (separated t c ∷ ps) = any c ∷ slots (k - 1) ps
-slots k (commaSeparated l left right c ∷ ps) = any c ∷ slots (k - 1) ps
-slots zero (curlyBrackets c ∷ ps) = some c ∷ slots 0 ps
-slots (suc k) (curlyBrackets c ∷ ps) = any c ∷ slots k ps
-slots k (ifNext c n ∷ ps) = slots n ps
-slots k (ifText n ∷ ps) = slots (k - 1) ps
-slots k (ifVariant n ∷ ps) = slots (k - 1) ps
+slots k (comma_separated l left right c ∷ ps) = any c ∷ slots (k - 1) ps
+slots zero (curly_brackets c ∷ ps) = some c ∷ slots 0 ps
+slots (suc k) (curly_brackets c ∷ ps) = any c ∷ slots k ps
+slots k (if_next c n ∷ ps) = slots n ps
+slots k (if_text n ∷ ps) = slots (k - 1) ps
+slots k (if_variant n ∷ ps) = slots (k - 1) ps
 
 unfoldable pub agrees : ℕ → Bool
-unfolding slots same ruleOf row_of
-agrees k = eqb k Kind.document || same (numbers (slots 0 (ruleOf k))) (numbers (row_of k).children)
+unfolding slots same rule_of row_of
+agrees k = eqb k Kind.document || same (numbers (slots 0 (rule_of k))) (numbers (row_of k).children)
 
 abbrev pub all_below : ℕ → Bool
 all_below zero = true
 all_below (suc n) = agrees n && all_below n
 
-pub rules-hold-the-listed-children : all_below Kind.count ≡ true
+pub rules_hold_the_listed_children : all_below Kind.count ≡ true
 unfolding agrees
-rules-hold-the-listed-children = refl
+rules_hold_the_listed_children = refl

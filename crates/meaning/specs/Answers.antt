@@ -1,7 +1,7 @@
 -- Document 01, "Refusal numbers": the number, place and length of each answer.
 use Rattle.std.specs.Prelude.{ℕ}
 use Rattle.std.proofs.Math.Option.{Option, none, some}
-use Rattle.meaning.specs.Reading.{Form as FormRead, quotedForm, blockForm}
+use Rattle.meaning.specs.Reading.{Form as FormRead, quoted_form, block_form}
 use Rattle.meaning.specs.declared.Refusal.{Refusal}
 use Rattle.meaning.specs.declared.Refusal.TheVariants.{Settings, Size, Node, Nesting, Depth, Children, Text, Room, Literal}
 use Rattle.meaning.specs.declared.Checked.{Checked}
@@ -22,30 +22,30 @@ pub record Answer : Type 0 where
 abbrev pub answer : ℕ → ℕ → ℕ → Answer
 answer n p l = record { number = n; place = p; length = l }
 
-abbrev pub refusalAnswer : Refusal → Answer
-refusalAnswer Settings = answer 1 0 0
-refusalAnswer Size = answer 2 0 0
-refusalAnswer (Node i) = answer 3 i.0 0
-refusalAnswer (Nesting i) = answer 4 i.0 0
-refusalAnswer (Depth i) = answer 5 i.0 0
-refusalAnswer (Children i) = answer 6 i.0 0
-refusalAnswer (Text i) = answer 7 i.0 0
-refusalAnswer (Room n) = answer 8 0 n.0
-refusalAnswer Literal = answer 9 0 0
+abbrev pub refusal_answer : Refusal → Answer
+refusal_answer Settings = answer 1 0 0
+refusal_answer Size = answer 2 0 0
+refusal_answer (Node i) = answer 3 i.0 0
+refusal_answer (Nesting i) = answer 4 i.0 0
+refusal_answer (Depth i) = answer 5 i.0 0
+refusal_answer (Children i) = answer 6 i.0 0
+refusal_answer (Text i) = answer 7 i.0 0
+refusal_answer (Room n) = answer 8 0 n.0
+refusal_answer Literal = answer 9 0 0
 
-abbrev pub checkedAnswer : Checked → Answer
-checkedAnswer Accepted = answer 0 0 0
-checkedAnswer (NotAccepted r) = refusalAnswer r
+abbrev pub checked_answer : Checked → Answer
+checked_answer Accepted = answer 0 0 0
+checked_answer (NotAccepted r) = refusal_answer r
 
-abbrev pub printedAnswer : Printed → Answer
-printedAnswer (Written n) = answer 0 0 n.0
-printedAnswer (NotWritten r) = refusalAnswer r
+abbrev pub printed_answer : Printed → Answer
+printed_answer (Written n) = answer 0 0 n.0
+printed_answer (NotWritten r) = refusal_answer r
 
-abbrev pub formRead : Form → FormRead
-formRead Quoted = quotedForm
-formRead Block = blockForm
+abbrev pub form_read : Form → FormRead
+form_read Quoted = quoted_form
+form_read Block = block_form
 
 -- "The answer names the form."
-abbrev pub readingAnswer : Reading → Answer × Option FormRead
-readingAnswer (Value f n) = (answer 0 0 n.0, some (formRead f))
-readingAnswer (NotRead r) = (refusalAnswer r, none)
+abbrev pub reading_answer : Reading → Answer × Option FormRead
+reading_answer (Value f n) = (answer 0 0 n.0, some (form_read f))
+reading_answer (NotRead r) = (refusal_answer r, none)

@@ -16,11 +16,11 @@ ascii (next c s) = code c ∷ ascii s
 abbrev pub tab : ℕ
 tab = 0x09
 
-abbrev pub lineFeed : ℕ
-lineFeed = 0x0A
+abbrev pub line_feed : ℕ
+line_feed = 0x0A
 
-abbrev pub carriageReturn : ℕ
-carriageReturn = 0x0D
+abbrev pub carriage_return : ℕ
+carriage_return = 0x0D
 
 abbrev pub space : ℕ
 space = 0x20
@@ -32,5 +32,5 @@ abbrev pub backslash : ℕ
 backslash = 0x5C
 
 -- `"""`
-abbrev pub tripleQuote : List ℕ
-tripleQuote = quote ∷ quote ∷ quote ∷ []
+abbrev pub triple_quote : List ℕ
+triple_quote = quote ∷ quote ∷ quote ∷ []

@@ -10,19 +10,19 @@ use Rattle.meaning.specs.Kind
 pub data Class : Type 0 where
   a : ℕ → Class  -- a node of this kind
   definition selection type value : Class
-  namedType : Class  -- "one 33 of variant 0"
+  named_type : Class  -- "one 33 of variant 0"
 
 abbrev pub from◌to◌ : ℕ → ℕ → ℕ → Bool
 from◌to◌ low high k = leb low k && leb k high
 
 -- "definitions 1 to 17", "S = selections (29, 31, 32)", types 33 and 34, values 35 to 43
-unfoldable pub isIn : Class → ℕ → ℕ → Bool
-isIn (a k) kind variant = eqb kind k
-isIn definition kind variant = from◌to◌ Kind.operation Kind.extendInputObject kind
-isIn selection kind variant = eqb kind Kind.field || from◌to◌ Kind.fragmentSpread Kind.inlineFragment kind
-isIn type kind variant = from◌to◌ Kind.namedType Kind.listType kind
-isIn value kind variant = from◌to◌ Kind.null Kind.objectValue kind
-isIn namedType kind variant = eqb kind Kind.namedType && eqb variant 0
+unfoldable pub is_in : Class → ℕ → ℕ → Bool
+is_in (a k) kind variant = eqb kind k
+is_in definition kind variant = from◌to◌ Kind.operation Kind.extend_input_object kind
+is_in selection kind variant = eqb kind Kind.field || from◌to◌ Kind.fragment_spread Kind.inline_fragment kind
+is_in type kind variant = from◌to◌ Kind.named_type Kind.list_type kind
+is_in value kind variant = from◌to◌ Kind.null Kind.object_value kind
+is_in named_type kind variant = eqb kind Kind.named_type && eqb variant 0
 
 -- one child of a class, at most one (`?`), any number (`*`), one or more (`+`)
 pub data Slot : Type 0 where
@@ -39,7 +39,7 @@ directives = any (a Kind.directive)
 
 -- what a kind's text is
 pub data TextRule : Type 0 where
-  noText name nameOrEmpty fragmentName enumName float int anyText : TextRule
+  no_text name name_or_empty fragment_name enum_name float int any_text : TextRule
 
 pub record Row : Type 0 where
   pub text : TextRule
@@ -56,85 +56,85 @@ repeat (opt c) = opt c
 repeat (any c) = any c
 repeat (some c) = any c
 
-abbrev pub withoutD : List Slot → List Slot
-withoutD [] = []
-withoutD (d ∷ cs) = map repeat cs
+abbrev pub without_d : List Slot → List Slot
+without_d [] = []
+without_d (d ∷ cs) = map repeat cs
 
 abbrev pub extension : Row → Row
-extension r = row r.text r.variants (withoutD r.children)
+extension r = row r.text r.variants (without_d r.children)
 
 abbrev schema : Row
-schema = row noText 1 (D ∷ directives ∷ some (a Kind.rootOperation) ∷ [])
+schema = row no_text 1 (D ∷ directives ∷ some (a Kind.root_operation) ∷ [])
 
 abbrev scalar : Row
 scalar = row name 1 (D ∷ directives ∷ [])
 
 -- Object, Interface
 abbrev object : Row
-object = row name 1 (D ∷ any (a Kind.interfaceName) ∷ directives ∷ any (a Kind.fieldDefinition) ∷ [])
+object = row name 1 (D ∷ any (a Kind.interface_name) ∷ directives ∷ any (a Kind.field_definition) ∷ [])
 
 abbrev union : Row
-union = row name 1 (D ∷ directives ∷ any (a Kind.unionMember) ∷ [])
+union = row name 1 (D ∷ directives ∷ any (a Kind.union_member) ∷ [])
 
 abbrev enum : Row
-enum = row name 1 (D ∷ directives ∷ any (a Kind.enumValueDefinition) ∷ [])
+enum = row name 1 (D ∷ directives ∷ any (a Kind.enum_value_definition) ∷ [])
 
-abbrev inputObject : Row
-inputObject = row name 1 (D ∷ directives ∷ any (a Kind.inputValueDefinition) ∷ [])
+abbrev input_object : Row
+input_object = row name 1 (D ∷ directives ∷ any (a Kind.input_value_definition) ∷ [])
 
 unfoldable pub rows : List Row
 rows =
-    row noText 1 (any definition ∷ [])  -- 0 Document
-    ∷ row nameOrEmpty 3 (any (a Kind.variableDefinition) ∷ directives ∷ some selection ∷ [])  -- 1 Operation
-    ∷ row fragmentName 1 (one namedType ∷ directives ∷ some selection ∷ [])  -- 2 Fragment
-    ∷ row name 2 (D ∷ any (a Kind.inputValueDefinition) ∷ some (a Kind.location) ∷ [])  -- 3 DirectiveDefinition
+    row no_text 1 (any definition ∷ [])  -- 0 Document
+    ∷ row name_or_empty 3 (any (a Kind.variable_definition) ∷ directives ∷ some selection ∷ [])  -- 1 Operation
+    ∷ row fragment_name 1 (one named_type ∷ directives ∷ some selection ∷ [])  -- 2 Fragment
+    ∷ row name 2 (D ∷ any (a Kind.input_value_definition) ∷ some (a Kind.location) ∷ [])  -- 3 DirectiveDefinition
     ∷ schema  -- 4 Schema
     ∷ scalar  -- 5 Scalar
     ∷ object  -- 6 Object
     ∷ object  -- 7 Interface
     ∷ union  -- 8 Union
     ∷ enum  -- 9 Enum
-    ∷ inputObject  -- 10 InputObject
+    ∷ input_object  -- 10 InputObject
     ∷ extension schema  -- 11 extend Schema
     ∷ extension scalar  -- 12 extend Scalar
     ∷ extension object  -- 13 extend Object
     ∷ extension object  -- 14 extend Interface
     ∷ extension union  -- 15 extend Union
     ∷ extension enum  -- 16 extend Enum
-    ∷ extension inputObject  -- 17 extend InputObject
-    ∷ row anyText 1 []  -- 18 Description
+    ∷ extension input_object  -- 17 extend InputObject
+    ∷ row any_text 1 []  -- 18 Description
     ∷ row name 1 (any (a Kind.argument) ∷ [])  -- 19 Directive
     ∷ row name 1 (one value ∷ [])  -- 20 Argument
     ∷ row name 1 (one type ∷ opt value ∷ directives ∷ [])  -- 21 VariableDefinition
     ∷ row name 1 (D ∷ one type ∷ opt value ∷ directives ∷ [])  -- 22 InputValueDefinition
-    ∷ row name 1 (D ∷ any (a Kind.inputValueDefinition) ∷ one type ∷ directives ∷ [])  -- 23 FieldDefinition
-    ∷ row enumName 1 (D ∷ directives ∷ [])  -- 24 EnumValueDefinition
+    ∷ row name 1 (D ∷ any (a Kind.input_value_definition) ∷ one type ∷ directives ∷ [])  -- 23 FieldDefinition
+    ∷ row enum_name 1 (D ∷ directives ∷ [])  -- 24 EnumValueDefinition
     ∷ row name 3 []  -- 25 RootOperation
     ∷ row name 1 []  -- 26 Interface name
     ∷ row name 1 []  -- 27 Union member
-    ∷ row noText 19 []  -- 28 Location
+    ∷ row no_text 19 []  -- 28 Location
     ∷ row name 1 (opt (a Kind.alias) ∷ any (a Kind.argument) ∷ directives ∷ any selection ∷ [])  -- 29 Field
     ∷ row name 1 []  -- 30 Alias
-    ∷ row fragmentName 1 (directives ∷ [])  -- 31 FragmentSpread
-    ∷ row nameOrEmpty 1 (directives ∷ some selection ∷ [])  -- 32 InlineFragment
+    ∷ row fragment_name 1 (directives ∷ [])  -- 31 FragmentSpread
+    ∷ row name_or_empty 1 (directives ∷ some selection ∷ [])  -- 32 InlineFragment
     ∷ row name 2 []  -- 33 NamedType
-    ∷ row noText 2 (one type ∷ [])  -- 34 ListType
-    ∷ row noText 1 []  -- 35 Null
-    ∷ row noText 2 []  -- 36 Boolean
-    ∷ row enumName 1 []  -- 37 Enum
-    ∷ row anyText 1 []  -- 38 String
+    ∷ row no_text 2 (one type ∷ [])  -- 34 ListType
+    ∷ row no_text 1 []  -- 35 Null
+    ∷ row no_text 2 []  -- 36 Boolean
+    ∷ row enum_name 1 []  -- 37 Enum
+    ∷ row any_text 1 []  -- 38 String
     ∷ row name 1 []  -- 39 Variable
     ∷ row float 1 []  -- 40 Float
     ∷ row int 1 []  -- 41 Int
-    ∷ row noText 1 (any value ∷ [])  -- 42 List
-    ∷ row noText 1 (any (a Kind.objectField) ∷ [])  -- 43 Object
+    ∷ row no_text 1 (any value ∷ [])  -- 42 List
+    ∷ row no_text 1 (any (a Kind.object_field) ∷ [])  -- 43 Object
     ∷ row name 1 (one value ∷ [])  -- 44 ObjectField
     ∷ []
 
 -- a kind that is not known has no variant
 unfoldable pub row_of : ℕ → Row
 unfolding rows
-row_of k = get_or rows k (row noText 0 [])
+row_of k = get_or rows k (row no_text 0 [])
 
 -- ---- children in order; `test` says whether a child is of a class
 

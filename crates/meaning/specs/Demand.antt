@@ -1,38 +1,38 @@
 -- What is promised of every literal: demand 3 and the bounds of document 01. These are statements; the crate `demand` proves them.
 use Rattle.std.specs.Prelude.{◌≡◌, ◌↔◌, Bool, true, false, ◌&&◌, ◌||◌, List, [], ◌∷◌, ◌++◌, ℕ, suc, ◌+◌, ◌*◌, ◌/◌, ◌≤◌, eqb, length, take, drop}
 use Rattle.std.proofs.Math.Option.{some}
-use Rattle.meaning.specs.Ascii.{if◌then◌else◌, lineFeed}
+use Rattle.meaning.specs.Ascii.{if◌then◌else◌, line_feed}
 use Rattle.meaning.specs.Utf8.{scalar, encoded, utf8}
-use Rattle.meaning.specs.Settings.{Settings, blank, literalLevels, settingsFault}
-use Rattle.meaning.specs.Block.{has, rawLines, firstLine, blockStringValue}
-use Rattle.meaning.specs.Literal.{takesBlock, literal}
-use Rattle.meaning.specs.Reading.{Form, quotedForm, blockForm, Reading, value, reading}
-use Rattle.meaning.specs.Refusals.{valueSizeFault}
+use Rattle.meaning.specs.Settings.{Settings, blank, literal_levels, settings_fault}
+use Rattle.meaning.specs.Block.{has, raw_lines, first_line, block_string_value}
+use Rattle.meaning.specs.Literal.{takes_block, literal}
+use Rattle.meaning.specs.Reading.{Form, quoted_form, block_form, Reading, value, reading}
+use Rattle.meaning.specs.Refusals.{value_size_fault}
 use Rattle.meaning.specs.Answers.{Answer, answer}
-use Rattle.meaning.specs.Entries.{printedLiteral, readLiteral}
+use Rattle.meaning.specs.Entries.{printed_literal, read_literal}
 
 -- ---- "With n bytes, f line feeds and L indent bytes (level times prefix length): quoted at most 6n + 2;
 -- block at most n + floor(n/3) + 8 + (f + 2)L."
 
-unfoldable pub lineFeeds : List ℕ → ℕ
-lineFeeds [] = 0
-lineFeeds (b ∷ v) = let n = lineFeeds v in if eqb b lineFeed then suc n else n
+unfoldable pub line_feeds : List ℕ → ℕ
+line_feeds [] = 0
+line_feeds (b ∷ v) = let n = line_feeds v in if eqb b line_feed then suc n else n
 
-unfoldable pub quotedBound : ℕ → ℕ
-quotedBound n = 6 * n + 2
+unfoldable pub quoted_bound : ℕ → ℕ
+quoted_bound n = 6 * n + 2
 
-unfoldable pub blockBound : ℕ → ℕ → ℕ → ℕ
-blockBound n f l = n + n / 3 + 8 + (f + 2) * l
+unfoldable pub block_bound : ℕ → ℕ → ℕ → ℕ
+block_bound n f l = n + n / 3 + 8 + (f + 2) * l
 
 abbrev pub Bounded : Settings → Bool → List ℕ → Type 0
 Bounded s d v =
     length (literal s d v)
-    ≤ (if takesBlock s d v then blockBound (length v) (lineFeeds v) (s.level * length s.prefix) else quotedBound (length v))
+    ≤ (if takes_block s d v then block_bound (length v) (line_feeds v) (s.level * length s.prefix) else quoted_bound (length v))
 
 -- ---- "demand 2's reading, given room, returns exactly that value"
 
 unfoldable pub form_of : Settings → Bool → List ℕ → Form
-form_of s d v = if takesBlock s d v then blockForm else quotedForm
+form_of s d v = if takes_block s d v then block_form else quoted_form
 
 abbrev pub ReadsBack : Settings → Bool → List ℕ → Type 0
 ReadsBack s d v = blank s.prefix ≡ true → utf8 v ≡ true → reading (literal s d v) ≡ value (form_of s d v) v
@@ -42,14 +42,14 @@ ReadsBack s d v = blank s.prefix ≡ true → utf8 v ≡ true → reading (liter
 
 pub record BlockReason (s : Settings) (d : Bool) (v : List ℕ) : Type 0 where
   pub breaks : s.breaks ≡ true
-  pub asked : d || has lineFeed v ≡ true
-  pub someByte : v ≡ [] → ⊥
+  pub asked : d || has line_feed v ≡ true
+  pub some_byte : v ≡ [] → ⊥
   pub raw : List ℕ
-  pub firstBlank : blank (firstLine (rawLines raw)) ≡ true
-  pub itsValue : blockStringValue raw ≡ v
+  pub first_blank : blank (first_line (raw_lines raw)) ≡ true
+  pub its_value : block_string_value raw ≡ v
 
 abbrev pub BlockExactly : Settings → Bool → List ℕ → Type 0
-BlockExactly s d v = (takesBlock s d v ≡ true) ↔ BlockReason s d v
+BlockExactly s d v = (takes_block s d v ≡ true) ↔ BlockReason s d v
 
 -- ---- UTF-8 is what the encodings of scalar values make
 
@@ -68,16 +68,16 @@ Utf8Exactly text = (utf8 text ≡ true) ↔ ((ns : List ℕ) × (scalars ns ≡ 
 
 -- "Any UTF-8 value up to 65,536 bytes, .. level up to 128, prefix of up to 16 spaces and tabs"
 pub record Printable (s : Settings) (v : List ℕ) : Type 0 where
-  pub settingsFine : settingsFault literalLevels s ≡ false
-  pub sizeFine : valueSizeFault v ≡ false
-  pub isUtf8 : utf8 v ≡ true
+  pub settings_fine : settings_fault literal_levels s ≡ false
+  pub size_fine : value_size_fault v ≡ false
+  pub is_utf8 : utf8 v ≡ true
 
 pub record Demand3 (s : Settings) (d : Bool) (v : List ℕ) : Type 0 where
   -- "printing succeeds exactly if demand 2's literal fits"
-  pub succeeds : (out : List ℕ) → ((printedLiteral s d v out).0.number ≡ 0) ↔ (length (literal s d v) ≤ length out)
+  pub succeeds : (out : List ℕ) → ((printed_literal s d v out).0.number ≡ 0) ↔ (length (literal s d v) ≤ length out)
   -- "more room never alters it"
-  pub sameText : (out : List ℕ) → length (literal s d v) ≤ length out → take (length (literal s d v)) (printedLiteral s d v out).1 ≡ literal s d v
+  pub same_text : (out : List ℕ) → length (literal s d v) ≤ length out → take (length (literal s d v)) (printed_literal s d v out).1 ≡ literal s d v
   -- "demand 2's reading, given room, returns exactly that value"
-  pub readBack : (out : List ℕ) → length v ≤ length out → readLiteral (literal s d v) out ≡ (answer 0 0 (length v), some (form_of s d v), v ++ drop (length v) out)
+  pub read_back : (out : List ℕ) → length v ≤ length out → read_literal (literal s d v) out ≡ (answer 0 0 (length v), some (form_of s d v), v ++ drop (length v) out)
   pub in_block : BlockExactly s d v
   pub bounds : Bounded s d v

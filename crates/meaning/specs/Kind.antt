@@ -10,8 +10,8 @@ operation = 1
 abbrev pub fragment : ℕ
 fragment = 2
 
-abbrev pub directiveDefinition : ℕ
-directiveDefinition = 3
+abbrev pub directive_definition : ℕ
+directive_definition = 3
 
 abbrev pub schema : ℕ
 schema = 4
@@ -31,29 +31,29 @@ union = 8
 abbrev pub enum : ℕ
 enum = 9
 
-abbrev pub inputObject : ℕ
-inputObject = 10
+abbrev pub input_object : ℕ
+input_object = 10
 
-abbrev pub extendSchema : ℕ
-extendSchema = 11
+abbrev pub extend_schema : ℕ
+extend_schema = 11
 
-abbrev pub extendScalar : ℕ
-extendScalar = 12
+abbrev pub extend_scalar : ℕ
+extend_scalar = 12
 
-abbrev pub extendObject : ℕ
-extendObject = 13
+abbrev pub extend_object : ℕ
+extend_object = 13
 
-abbrev pub extendInterface : ℕ
-extendInterface = 14
+abbrev pub extend_interface : ℕ
+extend_interface = 14
 
-abbrev pub extendUnion : ℕ
-extendUnion = 15
+abbrev pub extend_union : ℕ
+extend_union = 15
 
-abbrev pub extendEnum : ℕ
-extendEnum = 16
+abbrev pub extend_enum : ℕ
+extend_enum = 16
 
-abbrev pub extendInputObject : ℕ
-extendInputObject = 17
+abbrev pub extend_input_object : ℕ
+extend_input_object = 17
 
 abbrev pub description : ℕ
 description = 18
@@ -64,26 +64,26 @@ directive = 19
 abbrev pub argument : ℕ
 argument = 20
 
-abbrev pub variableDefinition : ℕ
-variableDefinition = 21
+abbrev pub variable_definition : ℕ
+variable_definition = 21
 
-abbrev pub inputValueDefinition : ℕ
-inputValueDefinition = 22
+abbrev pub input_value_definition : ℕ
+input_value_definition = 22
 
-abbrev pub fieldDefinition : ℕ
-fieldDefinition = 23
+abbrev pub field_definition : ℕ
+field_definition = 23
 
-abbrev pub enumValueDefinition : ℕ
-enumValueDefinition = 24
+abbrev pub enum_value_definition : ℕ
+enum_value_definition = 24
 
-abbrev pub rootOperation : ℕ
-rootOperation = 25
+abbrev pub root_operation : ℕ
+root_operation = 25
 
-abbrev pub interfaceName : ℕ
-interfaceName = 26
+abbrev pub interface_name : ℕ
+interface_name = 26
 
-abbrev pub unionMember : ℕ
-unionMember = 27
+abbrev pub union_member : ℕ
+union_member = 27
 
 abbrev pub location : ℕ
 location = 28
@@ -94,17 +94,17 @@ field = 29
 abbrev pub alias : ℕ
 alias = 30
 
-abbrev pub fragmentSpread : ℕ
-fragmentSpread = 31
+abbrev pub fragment_spread : ℕ
+fragment_spread = 31
 
-abbrev pub inlineFragment : ℕ
-inlineFragment = 32
+abbrev pub inline_fragment : ℕ
+inline_fragment = 32
 
-abbrev pub namedType : ℕ
-namedType = 33
+abbrev pub named_type : ℕ
+named_type = 33
 
-abbrev pub listType : ℕ
-listType = 34
+abbrev pub list_type : ℕ
+list_type = 34
 
 abbrev pub null : ℕ
 null = 35
@@ -112,8 +112,8 @@ null = 35
 abbrev pub boolean : ℕ
 boolean = 36
 
-abbrev pub enumValue : ℕ
-enumValue = 37
+abbrev pub enum_value : ℕ
+enum_value = 37
 
 abbrev pub string : ℕ
 string = 38
@@ -130,11 +130,11 @@ int = 41
 abbrev pub list : ℕ
 list = 42
 
-abbrev pub objectValue : ℕ
-objectValue = 43
+abbrev pub object_value : ℕ
+object_value = 43
 
-abbrev pub objectField : ℕ
-objectField = 44
+abbrev pub object_field : ℕ
+object_field = 44
 
 -- how many kinds there are
 abbrev pub count : ℕ

@@ -2,16 +2,16 @@
 use Rattle.std.specs.Prelude.{◌≡◌, refl, Bool, true, false, List, [], ◌∷◌, ℕ, length}
 use Prim.Native.String.{String}
 use Rattle.meaning.specs.Ascii.{ascii, space}
-use Rattle.meaning.specs.Settings.{Settings, settings, defaultSettings}
+use Rattle.meaning.specs.Settings.{Settings, settings, default_settings}
 use Rattle.meaning.specs.Literal.{literal}
 use Rattle.meaning.specs.Table.{tree_of}
-use Rattle.meaning.specs.Layout.{nodeText, documentText}
+use Rattle.meaning.specs.Layout.{node_text, document_text}
 
 abbrev pub level1 : Settings
 level1 = settings true (space ∷ space ∷ []) 1
 
-abbrev pub breaksOff : Settings
-breaksOff = settings false (space ∷ space ∷ []) 0
+abbrev pub breaks_off : Settings
+breaks_off = settings false (space ∷ space ∷ []) 0
 
 abbrev pub description : Bool
 description = true
@@ -20,15 +20,15 @@ abbrev pub string : Bool
 string = false
 
 -- "The query of a is the pool `a` and the words .."
-abbrev pub queryOfA : List ℕ
-queryOfA =
+abbrev pub query_of_a : List ℕ
+query_of_a =
     0 ∷ 0 ∷ 0 ∷ 0 ∷ 3
     ∷ 1 ∷ 0 ∷ 0 ∷ 0 ∷ 3
     ∷ 29 ∷ 0 ∷ 0 ∷ 1 ∷ 3
     ∷ []
 
-abbrev pub queriesOfAAndB : List ℕ
-queriesOfAAndB =
+abbrev pub queries_of_aAnd_b : List ℕ
+queries_of_aAnd_b =
     0 ∷ 0 ∷ 0 ∷ 0 ∷ 5
     ∷ 1 ∷ 0 ∷ 0 ∷ 0 ∷ 3
     ∷ 29 ∷ 0 ∷ 0 ∷ 1 ∷ 3
@@ -40,21 +40,21 @@ queriesOfAAndB =
 abbrev pub Is : List ℕ → String → ℕ → Type 0
 Is text known bytes = (text ≡ ascii known) × (length text ≡ bytes)
 
-pub known-outputs :
-    Is (literal defaultSettings description []) "\"\"" 2
-    × Is (literal defaultSettings description (ascii "abc")) "\"\"\"abc\"\"\"" 9
-    × Is (literal defaultSettings string (ascii "abc")) "\"abc\"" 5
+pub known_outputs :
+    Is (literal default_settings description []) "\"\"" 2
+    × Is (literal default_settings description (ascii "abc")) "\"\"\"abc\"\"\"" 9
+    × Is (literal default_settings string (ascii "abc")) "\"abc\"" 5
     × Is (literal level1 string (ascii "a\nb")) "\"\"\"\n  a\n  b\n  \"\"\"" 17
-    × Is (literal breaksOff string (ascii "a\nb")) "\"a\\nb\"" 6
+    × Is (literal breaks_off string (ascii "a\nb")) "\"a\\nb\"" 6
     × Is (literal level1 string (ascii "a\n\nb")) "\"\"\"\n  a\n\n  b\n  \"\"\"" 18
-    × Is (literal defaultSettings description (ascii "  abc")) "\"  abc\"" 7
-    × Is (literal defaultSettings string (0x01 ∷ [])) "\"\\u0001\"" 8
-    × Is (literal defaultSettings description (ascii "say \"hi\"")) "\"\"\"\nsay \"hi\"\n\"\"\"" 16
-    × Is (literal defaultSettings description (ascii "\"\"\"x")) "\"\"\"\\\"\"\"x\"\"\"" 11
-    × Is (documentText defaultSettings (tree_of queryOfA (ascii "a"))) "{\n  a\n}\n" 8
-    × Is (documentText breaksOff (tree_of queriesOfAAndB (ascii "ab"))) "{ a } query { b }" 17
-unfolding literal documentText tree_of nodeText
-known-outputs = (
+    × Is (literal default_settings description (ascii "  abc")) "\"  abc\"" 7
+    × Is (literal default_settings string (0x01 ∷ [])) "\"\\u0001\"" 8
+    × Is (literal default_settings description (ascii "say \"hi\"")) "\"\"\"\nsay \"hi\"\n\"\"\"" 16
+    × Is (literal default_settings description (ascii "\"\"\"x")) "\"\"\"\\\"\"\"x\"\"\"" 11
+    × Is (document_text default_settings (tree_of query_of_a (ascii "a"))) "{\n  a\n}\n" 8
+    × Is (document_text breaks_off (tree_of queries_of_aAnd_b (ascii "ab"))) "{ a } query { b }" 17
+unfolding literal document_text tree_of node_text
+known_outputs = (
   (refl, refl),
   (refl, refl),
   (refl, refl),

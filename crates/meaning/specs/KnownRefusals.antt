@@ -2,10 +2,10 @@
 use Rattle.std.specs.Prelude.{◌≡◌, refl, Bool, true, false, List, [], ◌∷◌, ◌++◌, ℕ, zero, suc, ◌+◌, ◌*◌, ◌-◌, length}
 use Prim.Native.String.{String}
 use Rattle.meaning.specs.Ascii.{ascii}
-use Rattle.meaning.specs.Children.{TextRule, noText, name, nameOrEmpty, fragmentName, enumName, float, int, anyText}
-use Rattle.meaning.specs.Text.{textFits}
-use Rattle.meaning.specs.Refusals.{Verdict, accepted, refusal, verdict, sizeFault, valueSizeFault}
-use Rattle.meaning.specs.Known.{queryOfA}
+use Rattle.meaning.specs.Children.{TextRule, no_text, name, name_or_empty, fragment_name, enum_name, float, int, any_text}
+use Rattle.meaning.specs.Text.{text_fits}
+use Rattle.meaning.specs.Refusals.{Verdict, accepted, refusal, verdict, size_fault, value_size_fault}
+use Rattle.meaning.specs.Known.{query_of_a}
 
 -- a node in front of the others
 abbrev node : ℕ → ℕ → ℕ → ℕ → ℕ → List ℕ → List ℕ
@@ -28,21 +28,21 @@ sizes :
 unfolding verdict
 sizes = (refl, refl, refl, refl)
 
-sizes-at-their-limits : (w p : List ℕ)
-    → (length w ≡ 8192 * 5 → length p ≡ 65536 → sizeFault w p ≡ false)
-    × (length w ≡ 8193 * 5 → length p ≡ 65536 → sizeFault w p ≡ true)
-    × (length w ≡ 8192 * 5 → length p ≡ 65537 → sizeFault w p ≡ true)
-    × (length p ≡ 65536 → valueSizeFault p ≡ false)
-    × (length p ≡ 65537 → valueSizeFault p ≡ true)
-unfolding sizeFault valueSizeFault
-sizes-at-their-limits w p = (λ e f. rw (e, f), λ e f. rw e, λ e f. rw (e, f), λ f. rw f, λ f. rw f)
+sizes_at_their_limits : (w p : List ℕ)
+    → (length w ≡ 8192 * 5 → length p ≡ 65536 → size_fault w p ≡ false)
+    × (length w ≡ 8193 * 5 → length p ≡ 65536 → size_fault w p ≡ true)
+    × (length w ≡ 8192 * 5 → length p ≡ 65537 → size_fault w p ≡ true)
+    × (length p ≡ 65536 → value_size_fault p ≡ false)
+    × (length p ≡ 65537 → value_size_fault p ≡ true)
+unfolding size_fault value_size_fault
+sizes_at_their_limits w p = (λ e f. rw (e, f), λ e f. rw e, λ e f. rw (e, f), λ f. rw f, λ f. rw f)
 
 -- ---- 3, in the order of its row; the pool has one byte
 
 abbrev Node : List ℕ → ℕ → Type 0
 Node w i = verdict w (ascii "a") ≡ refusal 3 i
 
-nodes-are-known :
+nodes_are_known :
     Node (document 2 (node 45 0 0 1 2 [])) 1
     × Node (document 2 (node 1 3 0 0 2 [])) 1
     × Node (document 2 (node 2 1 0 1 2 [])) 1
@@ -67,7 +67,7 @@ nodes-are-known :
     × Node (node 5 0 0 1 1 []) 0
     × Node (document 2 (document 2 [])) 1
 unfolding verdict
-nodes-are-known =
+nodes_are_known =
     (refl, refl, refl, refl, refl, refl, refl, refl, refl, refl, refl, refl, refl, refl, refl, refl, refl, refl, refl, refl, refl, refl, refl)
 
 -- ---- 4: node 1 ends before node 3, which it holds; the smallest such node is named, and 3 goes before 4
@@ -101,7 +101,7 @@ Children w i = verdict w (ascii "a") ≡ refusal 6 i
 abbrev Accepted : List ℕ → Type 0
 Accepted w = verdict w (ascii "a") ≡ accepted
 
-children-are-listed :
+children_are_listed :
     Children (query 2 []) 1
     × Children (document 2 (node 29 0 0 1 2 [])) 0
     × Children (query 4 (node 29 0 0 1 3 (node 19 0 0 1 4 []))) 1
@@ -124,7 +124,7 @@ children-are-listed :
     × Children (query 4 (node 29 0 0 1 4 (node 20 0 0 1 4 []))) 3
     × Children (query 5 (node 31 0 0 1 5 (node 19 0 0 1 4 (node 29 0 0 1 5 [])))) 2
 unfolding verdict
-children-are-listed =
+children_are_listed =
     (refl, refl, refl, refl, refl, refl, refl, refl, refl, refl, refl, refl, refl, refl, refl, refl, refl, refl, refl, refl, refl)
 
 -- "a Variable below a kind 3 to 17 or 21 (place: the Variable)": in a field's argument it may stand, in a default value not
@@ -141,28 +141,28 @@ variables = (refl, refl, refl, refl, refl, refl)
 -- ---- 7
 
 abbrev Fits : TextRule → String → Type 0
-Fits r s = textFits r (ascii s) ≡ true
+Fits r s = text_fits r (ascii s) ≡ true
 
 abbrev Not : TextRule → String → Type 0
-Not r s = textFits r (ascii s) ≡ false
+Not r s = text_fits r (ascii s) ≡ false
 
 names :
     Fits name "_" × Fits name "aZ_9" × Fits name "on" × Fits name "true" × Not name "" × Not name "9a" × Not name "a-b" × Not name "a b"
-    × Fits nameOrEmpty ""
-    × Fits nameOrEmpty "a"
-    × Not nameOrEmpty "9"
-    × Fits fragmentName "On"
-    × Fits fragmentName "one"
-    × Not fragmentName "on"
-    × Not fragmentName ""
-    × Fits enumName "on"
-    × Fits enumName "True"
-    × Fits enumName "nulls"
-    × Not enumName "true"
-    × Not enumName "false"
-    × Not enumName "null"
-    × Not enumName ""
-unfolding textFits
+    × Fits name_or_empty ""
+    × Fits name_or_empty "a"
+    × Not name_or_empty "9"
+    × Fits fragment_name "On"
+    × Fits fragment_name "one"
+    × Not fragment_name "on"
+    × Not fragment_name ""
+    × Fits enum_name "on"
+    × Fits enum_name "True"
+    × Fits enum_name "nulls"
+    × Not enum_name "true"
+    × Not enum_name "false"
+    × Not enum_name "null"
+    × Not enum_name ""
+unfolding text_fits
 names =
     (refl, refl, refl, refl, refl, refl, refl, refl, refl, refl, refl, refl, refl, refl, refl, refl, refl, refl, refl, refl, refl, refl)
 
@@ -184,13 +184,13 @@ numbers :
     × Not float "1.5e"
     × Not float "1.5.5"
     × Not float "1e1.5"
-unfolding textFits
+unfolding text_fits
 numbers =
     (refl, refl, refl, refl, refl, refl, refl, refl, refl, refl, refl, refl, refl, refl, refl, refl, refl, refl, refl, refl, refl, refl, refl, refl, refl, refl, refl)
 
 -- the smallest node, and 6 before 7
 texts :
-    (verdict queryOfA (ascii "-") ≡ refusal 7 2)
+    (verdict query_of_a (ascii "-") ≡ refusal 7 2)
     × (verdict (query 4 (node 29 0 0 1 3 (node 29 0 1 1 4 []))) (ascii "--") ≡ refusal 7 2)
     × (verdict (query 3 (node 29 0 0 0 3 [])) (ascii "a") ≡ refusal 7 2)
     × (verdict (query 3 (node 31 0 0 2 3 [])) (ascii "on") ≡ refusal 7 2)

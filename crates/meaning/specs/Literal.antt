@@ -1,16 +1,16 @@
 -- Document 01, "String literals": which form is taken, and the whole literal.
 use Rattle.std.specs.Prelude.{Bool, true, false, ◌&&◌, ◌||◌, List, ℕ}
-use Rattle.meaning.specs.Ascii.{if◌then◌else◌, lineFeed}
+use Rattle.meaning.specs.Ascii.{if◌then◌else◌, line_feed}
 use Rattle.meaning.specs.Settings.{Settings, indentation}
 use Rattle.meaning.specs.Quoted.{quoted}
-use Rattle.meaning.specs.Block.{has, canBeBlockString, blockString}
+use Rattle.meaning.specs.Block.{has, can_be_block_string, block_string}
 
 -- "Block form needs breaks on, description or LF present, and: .."
-unfoldable pub takesBlock : Settings → Bool → List ℕ → Bool
-unfolding has canBeBlockString
-takesBlock s description v = s.breaks && ((description || has lineFeed v) && canBeBlockString v)
+unfoldable pub takes_block : Settings → Bool → List ℕ → Bool
+unfolding has can_be_block_string
+takes_block s description v = s.breaks && ((description || has line_feed v) && can_be_block_string v)
 
 -- the literal of a value: a description or a string, under the settings
 unfoldable pub literal : Settings → Bool → List ℕ → List ℕ
-unfolding takesBlock indentation blockString quoted
-literal s description v = if takesBlock s description v then blockString (indentation s) v else quoted v
+unfolding takes_block indentation block_string quoted
+literal s description v = if takes_block s description v then block_string (indentation s) v else quoted v

@@ -4,11 +4,11 @@ use Rattle.std.specs.Prelude.{ℕ, Bool, true, false, List, [], ◌∷◌, ◌++
 use Prim.Native.String.{String}
 use Rattle.meaning.specs.Ascii.{ascii}
 use Rattle.meaning.specs.Kind
-use Rattle.meaning.specs.Children.{Class, a, selection, type, value, namedType}
+use Rattle.meaning.specs.Children.{Class, a, selection, type, value, named_type}
 
 -- how the items of a comma list stand: as the list stands, on one line, or on one line unless one has a description or a directive
 pub data Lines : Type 0 where
-  asHere singleLine singleLineUnlessMarked : Lines
+  as_here single_line single_line_unless_marked : Lines
 
 pub data Part : Type 0 where
   tok : List ℕ → Part  -- a token
@@ -16,15 +16,15 @@ pub data Part : Type 0 where
   text : Part  -- the node's text as it is
   literal : Bool → Part  -- the node's text as a literal: a description, or a string
   space : Part  -- a space
-  newLineOrSpace : Part  -- a new line, or a space with breaks off
+  new_line_or_space : Part  -- a new line, or a space with breaks off
   one : Class → Part  -- one child
   spaced : Class → Part  -- any number of children, each after a space
   separated : List ℕ → Class → Part  -- any number of children, each after a space, the token and a space
-  commaSeparated : Lines → List ℕ → List ℕ → Class → Part  -- any number of children as a comma list between two tokens
-  curlyBrackets : Class → Part  -- one or more children in braces
-  ifNext : Class → ℕ → Part  -- so many parts stand only where a child of the class is next
-  ifText : ℕ → Part  -- .. where the node has a text
-  ifVariant : ℕ → Part  -- .. where its variant is 1
+  comma_separated : Lines → List ℕ → List ℕ → Class → Part  -- any number of children as a comma list between two tokens
+  curly_brackets : Class → Part  -- one or more children in braces
+  if_next : Class → ℕ → Part  -- so many parts stand only where a child of the class is next
+  if_text : ℕ → Part  -- .. where the node has a text
+  if_variant : ℕ → Part  -- .. where its variant is 1
 
 -- ---- combinators
 
@@ -48,17 +48,17 @@ abbrev pub child : Class → List Part
 child c = one c ∷ []
 
 abbrev pub optional : Class → List Part → List Part
-optional c ps = ifNext c (length ps) ∷ ps
+optional c ps = if_next c (length ps) ∷ ps
 
-abbrev pub ifNamed : List Part → List Part
-ifNamed ps = ifText (length ps) ∷ ps
+abbrev pub if_named : List Part → List Part
+if_named ps = if_text (length ps) ∷ ps
 
-abbrev pub ifOne : List Part → List Part
-ifOne ps = ifVariant (length ps) ∷ ps
+abbrev pub if_one : List Part → List Part
+if_one ps = if_variant (length ps) ∷ ps
 
 -- `serialize_description`
 abbrev pub description : List Part
-description = optional (a Kind.description) (child (a Kind.description) ++ newLineOrSpace ∷ [])
+description = optional (a Kind.description) (child (a Kind.description) ++ new_line_or_space ∷ [])
 
 -- `DirectiveList`
 abbrev pub directives : List Part
@@ -66,52 +66,52 @@ directives = spaced (a Kind.directive) ∷ []
 
 -- `serialize_arguments`, the variables of an operation, `serialize_arguments_definition`
 abbrev pub parenthesized : Lines → ℕ → List Part
-parenthesized l k = optional (a k) (commaSeparated l (ascii "(") (ascii ")") (a k) ∷ [])
+parenthesized l k = optional (a k) (comma_separated l (ascii "(") (ascii ")") (a k) ∷ [])
 
 abbrev pub arguments : List Part
-arguments = parenthesized singleLine Kind.argument
+arguments = parenthesized single_line Kind.argument
 
 abbrev pub variables : List Part
-variables = parenthesized singleLine Kind.variableDefinition
+variables = parenthesized single_line Kind.variable_definition
 
-abbrev pub argumentDefinitions : List Part
-argumentDefinitions = parenthesized singleLineUnlessMarked Kind.inputValueDefinition
+abbrev pub argument_definitions : List Part
+argument_definitions = parenthesized single_line_unless_marked Kind.input_value_definition
 
 -- `curly_brackets_space_separated`, and the same where there may be nothing to put in
 abbrev pub braces : Class → List Part
-braces c = sp ++ curlyBrackets c ∷ []
+braces c = sp ++ curly_brackets c ∷ []
 
-abbrev pub optionalBraces : Class → List Part
-optionalBraces c = optional c (braces c)
+abbrev pub optional_braces : Class → List Part
+optional_braces c = optional c (braces c)
 
 -- `first`, then ` | member` for each of the rest
 abbrev pub listed : Class → String → List Part
 listed c s = child c ++ separated (ascii s) c ∷ []
 
 abbrev pub implements : List Part
-implements = optional (a Kind.interfaceName) (sp ++ token "implements" ++ sp ++ listed (a Kind.interfaceName) "&")
+implements = optional (a Kind.interface_name) (sp ++ token "implements" ++ sp ++ listed (a Kind.interface_name) "&")
 
 abbrev pub members : List Part
-members = optional (a Kind.unionMember) (sp ++ token "=" ++ sp ++ listed (a Kind.unionMember) "|")
+members = optional (a Kind.union_member) (sp ++ token "=" ++ sp ++ listed (a Kind.union_member) "|")
 
-abbrev pub ofType : List Part
-ofType = token ":" ++ sp ++ child type
+abbrev pub of_type : List Part
+of_type = token ":" ++ sp ++ child type
 
-abbrev pub defaultValue : List Part
-defaultValue = optional value (sp ++ token "=" ++ sp ++ child value)
+abbrev pub default_value : List Part
+default_value = optional value (sp ++ token "=" ++ sp ++ child value)
 
-abbrev pub ofValue : List Part
-ofValue = token ":" ++ sp ++ child value
+abbrev pub of_value : List Part
+of_value = token ":" ++ sp ++ child value
 
-abbrev pub operationType : List Part
-operationType = one_of ("query" ∷ "mutation" ∷ "subscription" ∷ [])
+abbrev pub operation_type : List Part
+operation_type = one_of ("query" ∷ "mutation" ∷ "subscription" ∷ [])
 
 -- `Type`'s `!`
-abbrev pub nonNull : List Part
-nonNull = ifOne (token "!")
+abbrev pub non_null : List Part
+non_null = if_one (token "!")
 
-abbrev pub locationName : List Part
-locationName =
+abbrev pub location_name : List Part
+location_name =
     one_of (
     "QUERY" ∷ "MUTATION" ∷ "SUBSCRIPTION" ∷ "FIELD" ∷ "FRAGMENT_DEFINITION" ∷ "FRAGMENT_SPREAD" ∷ "INLINE_FRAGMENT"
     ∷ "VARIABLE_DEFINITION" ∷ "SCHEMA" ∷ "SCALAR" ∷ "OBJECT" ∷ "FIELD_DEFINITION" ∷ "ARGUMENT_DEFINITION" ∷ "INTERFACE"
@@ -121,8 +121,8 @@ locationName =
 abbrev pub locations : List Part
 locations = sp ++ token "on" ++ sp ++ listed (a Kind.location) "|"
 
-abbrev pub directiveDefinition : List Part
-directiveDefinition = token "directive" ++ sp ++ token "@" ++ name ++ argumentDefinitions ++ ifOne (sp ++ token "repeatable") ++ locations
+abbrev pub directive_definition : List Part
+directive_definition = token "directive" ++ sp ++ token "@" ++ name ++ argument_definitions ++ if_one (sp ++ token "repeatable") ++ locations
 
 -- ---- what definitions and extensions share
 
@@ -130,18 +130,18 @@ abbrev pub scalar : List Part
 scalar = token "scalar" ++ sp ++ name ++ directives
 
 -- `serialize_object_type_like`
-abbrev pub objectLike : String → List Part
-objectLike keyword = token keyword ++ sp ++ name ++ implements ++ directives ++ optionalBraces (a Kind.fieldDefinition)
+abbrev pub object_like : String → List Part
+object_like keyword = token keyword ++ sp ++ name ++ implements ++ directives ++ optional_braces (a Kind.field_definition)
 
 -- `serialize_union`
 abbrev pub union : List Part
 union = token "union" ++ sp ++ name ++ directives ++ members
 
 abbrev pub enum : List Part
-enum = token "enum" ++ sp ++ name ++ directives ++ optionalBraces (a Kind.enumValueDefinition)
+enum = token "enum" ++ sp ++ name ++ directives ++ optional_braces (a Kind.enum_value_definition)
 
-abbrev pub inputObject : List Part
-inputObject = token "input" ++ sp ++ name ++ directives ++ optionalBraces (a Kind.inputValueDefinition)
+abbrev pub input_object : List Part
+input_object = token "input" ++ sp ++ name ++ directives ++ optional_braces (a Kind.input_value_definition)
 
 abbrev pub extend : List Part
 extend = token "extend" ++ sp
@@ -150,45 +150,45 @@ extend = token "extend" ++ sp
 
 -- "Shorthand `{`": the selections alone
 unfoldable pub shorthand : List Part
-shorthand = curlyBrackets selection ∷ []
+shorthand = curly_brackets selection ∷ []
 
 unfoldable pub rules : List (List Part)
 rules =
     []  -- 0 Document: see Layout
-    ∷ (operationType ++ ifNamed (sp ++ name) ++ variables ++ directives ++ braces selection)  -- 1 Operation
-    ∷ (token "fragment" ++ sp ++ name ++ sp ++ token "on" ++ sp ++ child namedType ++ directives ++ braces selection)  -- 2 Fragment
-    ∷ (description ++ directiveDefinition)  -- 3 DirectiveDefinition
-    ∷ (description ++ token "schema" ++ directives ++ braces (a Kind.rootOperation))  -- 4 Schema
+    ∷ (operation_type ++ if_named (sp ++ name) ++ variables ++ directives ++ braces selection)  -- 1 Operation
+    ∷ (token "fragment" ++ sp ++ name ++ sp ++ token "on" ++ sp ++ child named_type ++ directives ++ braces selection)  -- 2 Fragment
+    ∷ (description ++ directive_definition)  -- 3 DirectiveDefinition
+    ∷ (description ++ token "schema" ++ directives ++ braces (a Kind.root_operation))  -- 4 Schema
     ∷ (description ++ scalar)  -- 5 Scalar
-    ∷ (description ++ objectLike "type")  -- 6 Object
-    ∷ (description ++ objectLike "interface")  -- 7 Interface
+    ∷ (description ++ object_like "type")  -- 6 Object
+    ∷ (description ++ object_like "interface")  -- 7 Interface
     ∷ (description ++ union)  -- 8 Union
     ∷ (description ++ enum)  -- 9 Enum
-    ∷ (description ++ inputObject)  -- 10 InputObject
-    ∷ (extend ++ token "schema" ++ directives ++ optionalBraces (a Kind.rootOperation))  -- 11 extend Schema
+    ∷ (description ++ input_object)  -- 10 InputObject
+    ∷ (extend ++ token "schema" ++ directives ++ optional_braces (a Kind.root_operation))  -- 11 extend Schema
     ∷ (extend ++ scalar)  -- 12 extend Scalar
-    ∷ (extend ++ objectLike "type")  -- 13 extend Object
-    ∷ (extend ++ objectLike "interface")  -- 14 extend Interface
+    ∷ (extend ++ object_like "type")  -- 13 extend Object
+    ∷ (extend ++ object_like "interface")  -- 14 extend Interface
     ∷ (extend ++ union)  -- 15 extend Union
     ∷ (extend ++ enum)  -- 16 extend Enum
-    ∷ (extend ++ inputObject)  -- 17 extend InputObject
+    ∷ (extend ++ input_object)  -- 17 extend InputObject
     ∷ (literal true ∷ [])  -- 18 Description
     ∷ (token "@" ++ name ++ arguments)  -- 19 Directive
-    ∷ (name ++ ofValue)  -- 20 Argument
-    ∷ (token "$" ++ name ++ ofType ++ defaultValue ++ directives)  -- 21 VariableDefinition
-    ∷ (description ++ name ++ ofType ++ defaultValue ++ directives)  -- 22 InputValueDefinition
-    ∷ (description ++ name ++ argumentDefinitions ++ ofType ++ directives)  -- 23 FieldDefinition
+    ∷ (name ++ of_value)  -- 20 Argument
+    ∷ (token "$" ++ name ++ of_type ++ default_value ++ directives)  -- 21 VariableDefinition
+    ∷ (description ++ name ++ of_type ++ default_value ++ directives)  -- 22 InputValueDefinition
+    ∷ (description ++ name ++ argument_definitions ++ of_type ++ directives)  -- 23 FieldDefinition
     ∷ (description ++ name ++ directives)  -- 24 EnumValueDefinition
-    ∷ (operationType ++ token ":" ++ sp ++ name)  -- 25 RootOperation
+    ∷ (operation_type ++ token ":" ++ sp ++ name)  -- 25 RootOperation
     ∷ name  -- 26 Interface name
     ∷ name  -- 27 Union member
-    ∷ locationName  -- 28 Location
-    ∷ (optional (a Kind.alias) (child (a Kind.alias) ++ token ":" ++ sp) ++ name ++ arguments ++ directives ++ optionalBraces selection)  -- 29 Field
+    ∷ location_name  -- 28 Location
+    ∷ (optional (a Kind.alias) (child (a Kind.alias) ++ token ":" ++ sp) ++ name ++ arguments ++ directives ++ optional_braces selection)  -- 29 Field
     ∷ name  -- 30 Alias
     ∷ (token "..." ++ name ++ directives)  -- 31 FragmentSpread
-    ∷ (token "..." ++ ifNamed (sp ++ token "on" ++ sp ++ name) ++ directives ++ braces selection)  -- 32 InlineFragment
-    ∷ (name ++ nonNull)  -- 33 NamedType
-    ∷ (token "[" ++ child type ++ token "]" ++ nonNull)  -- 34 ListType
+    ∷ (token "..." ++ if_named (sp ++ token "on" ++ sp ++ name) ++ directives ++ braces selection)  -- 32 InlineFragment
+    ∷ (name ++ non_null)  -- 33 NamedType
+    ∷ (token "[" ++ child type ++ token "]" ++ non_null)  -- 34 ListType
     ∷ token "null"  -- 35 Null
     ∷ one_of ("false" ∷ "true" ∷ [])  -- 36 Boolean
     ∷ name  -- 37 Enum
@@ -196,11 +196,11 @@ rules =
     ∷ (token "$" ++ name)  -- 39 Variable
     ∷ name  -- 40 Float
     ∷ name  -- 41 Int
-    ∷ (commaSeparated asHere (ascii "[") (ascii "]") value ∷ [])  -- 42 List
-    ∷ (commaSeparated asHere (ascii "{") (ascii "}") (a Kind.objectField) ∷ [])  -- 43 Object
-    ∷ (name ++ ofValue)  -- 44 ObjectField
+    ∷ (comma_separated as_here (ascii "[") (ascii "]") value ∷ [])  -- 42 List
+    ∷ (comma_separated as_here (ascii "{") (ascii "}") (a Kind.object_field) ∷ [])  -- 43 Object
+    ∷ (name ++ of_value)  -- 44 ObjectField
     ∷ []
 
-unfoldable pub ruleOf : ℕ → List Part
+unfoldable pub rule_of : ℕ → List Part
 unfolding rules
-ruleOf k = get_or rules k []
+rule_of k = get_or rules k []

@@ -3,14 +3,14 @@
 use Rattle.std.specs.Prelude.{ℕ, zero, suc, ◌+◌, ◌-◌, ◌*◌, ◌/◌, Bool, true, false, List, [], ◌∷◌, length, get_or, take, drop, ltb}
 use Rattle.meaning.specs.Tree.{Head, Tree, tree, Forest, none, more}
 
-abbrev pub wordsPerNode : ℕ
-wordsPerNode = 5
+abbrev pub words_per_node : ℕ
+words_per_node = 5
 
 unfoldable pub nodes : List ℕ → ℕ
-nodes w = length w / wordsPerNode
+nodes w = length w / words_per_node
 
 unfoldable pub word : ℕ → List ℕ → ℕ → ℕ
-word f w i = get_or w (i * wordsPerNode + f) 0
+word f w i = get_or w (i * words_per_node + f) 0
 
 unfoldable pub kind_at : List ℕ → ℕ → ℕ
 unfolding word
@@ -33,37 +33,37 @@ unfolding word
 end_at w i = word 4 w i
 
 -- a node's text: the bytes of the pool that it names
-unfoldable pub textAt : List ℕ → List ℕ → ℕ → List ℕ
+unfoldable pub text_at : List ℕ → List ℕ → ℕ → List ℕ
 unfolding start_at length_at
-textAt w p i = take (length_at w i) (drop (start_at w i) p)
+text_at w p i = take (length_at w i) (drop (start_at w i) p)
 
-unfoldable pub headAt : List ℕ → List ℕ → ℕ → Head
-unfolding kind_at variant_at textAt
-headAt w p i = record { kind = kind_at w i; variant = variant_at w i; text = textAt w p i }
+unfoldable pub head_at : List ℕ → List ℕ → ℕ → Head
+unfolding kind_at variant_at text_at
+head_at w p i = record { kind = kind_at w i; variant = variant_at w i; text = text_at w p i }
 
 -- the trees of the nodes from i up to, not including, e; each is followed by the node at which it ends. The first number bounds
 -- how many nodes are visited.
-unfoldable pub forestIn : ℕ → List ℕ → List ℕ → ℕ → ℕ → Forest
-unfolding headAt end_at
-forestIn zero w p i e = none
-forestIn (suc n) w p i e =
+unfoldable pub forest_in : ℕ → List ℕ → List ℕ → ℕ → ℕ → Forest
+unfolding head_at end_at
+forest_in zero w p i e = none
+forest_in (suc n) w p i e =
     elim (ltb i e) [
-      | true ↦ more (tree (headAt w p i) (forestIn n w p (i + 1) (end_at w i))) (forestIn n w p (end_at w i) e)
+      | true ↦ more (tree (head_at w p i) (forest_in n w p (i + 1) (end_at w i))) (forest_in n w p (end_at w i) e)
       | false ↦ none
     ]
 
 unfoldable pub forest : List ℕ → List ℕ → ℕ → ℕ → Forest
-unfolding forestIn
-forest w p i e = forestIn (e - i) w p i e
+unfolding forest_in
+forest w p i e = forest_in (e - i) w p i e
 
-unfoldable pub treeAt : List ℕ → List ℕ → ℕ → Tree
-unfolding headAt forest end_at
-treeAt w p i = tree (headAt w p i) (forest w p (i + 1) (end_at w i))
+unfoldable pub tree_at : List ℕ → List ℕ → ℕ → Tree
+unfolding head_at forest end_at
+tree_at w p i = tree (head_at w p i) (forest w p (i + 1) (end_at w i))
 
 -- the tree that a table and its pool stand for
 unfoldable pub tree_of : List ℕ → List ℕ → Tree
-unfolding treeAt
-tree_of w p = treeAt w p 0
+unfolding tree_at
+tree_of w p = tree_at w p 0
 
 -- the numbers of a node's children: each child is followed by the node at which it ends
 unfoldable pub siblings : ℕ → List ℕ → ℕ → ℕ → List ℕ
@@ -71,6 +71,6 @@ unfolding end_at
 siblings zero w i e = []
 siblings (suc n) w i e = elim (ltb i e) [ true ↦ i ∷ siblings n w (end_at w i) e | false ↦ [] ]
 
-unfoldable pub childrenAt : List ℕ → ℕ → List ℕ
+unfoldable pub children_at : List ℕ → ℕ → List ℕ
 unfolding siblings end_at
-childrenAt w i = siblings (end_at w i - i) w (i + 1) (end_at w i)
+children_at w i = siblings (end_at w i - i) w (i + 1) (end_at w i)

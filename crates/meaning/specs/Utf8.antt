@@ -8,8 +8,8 @@ unfoldable pub scalar : ℕ → Bool
 scalar n = leb n 0x10FFFF && (ltb n 0xD800 || ltb 0xDFFF n)
 
 -- how many one bits a byte begins with; 5 stands for every number past 4
-unfoldable pub leadingOnes : ℕ → ℕ
-leadingOnes b =
+unfoldable pub leading_ones : ℕ → ℕ
+leading_ones b =
     if ltb b 0x80 then 0
     else if ltb b 0xC0 then 1
     else if ltb b 0xE0 then 2
@@ -19,21 +19,21 @@ leadingOnes b =
 
 -- a lead byte, and a byte that goes on with a sequence
 unfoldable pub leads : ℕ → Bool
-unfolding leadingOnes
-leads b = not (eqb (leadingOnes b) 1) && leb (leadingOnes b) 4
+unfolding leading_ones
+leads b = not (eqb (leading_ones b) 1) && leb (leading_ones b) 4
 
-unfoldable pub goesOn : ℕ → Bool
-unfolding leadingOnes
-goesOn b = eqb (leadingOnes b) 1
+unfoldable pub goes_on : ℕ → Bool
+unfolding leading_ones
+goes_on b = eqb (leading_ones b) 1
 
 -- of a lead byte: how many bytes go on after it, and its own bits of the value
 unfoldable pub follow : ℕ → ℕ
-unfolding leadingOnes
-follow b = leadingOnes b - 1
+unfolding leading_ones
+follow b = leading_ones b - 1
 
-unfoldable pub ownBits : ℕ → ℕ
-unfolding leadingOnes
-ownBits b = b % 2 ^ (7 - leadingOnes b)
+unfoldable pub own_bits : ℕ → ℕ
+unfolding leading_ones
+own_bits b = b % 2 ^ (7 - leading_ones b)
 
 -- the least value that is not overlong where so many bytes go on
 unfoldable pub least : ℕ → ℕ
@@ -46,17 +46,17 @@ fine zero low n = leb low n && scalar n
 fine (suc k) low n = true
 
 -- whole sequences, after k more bytes of one that has the value n so far and is overlong below `low`
-unfoldable pub utf8After : ℕ → ℕ → ℕ → List ℕ → Bool
-unfolding leads goesOn follow ownBits least fine
-utf8After zero low n [] = true
-utf8After (suc k) low n [] = false
-utf8After zero low n (b ∷ s) = leads b && utf8After (follow b) (least (follow b)) (ownBits b) s
-utf8After (suc k) low n (b ∷ s) =
-    goesOn b && (fine k low (n * 64 + b % 64) && utf8After k low (n * 64 + b % 64) s)
+unfoldable pub utf8_after : ℕ → ℕ → ℕ → List ℕ → Bool
+unfolding leads goes_on follow own_bits least fine
+utf8_after zero low n [] = true
+utf8_after (suc k) low n [] = false
+utf8_after zero low n (b ∷ s) = leads b && utf8_after (follow b) (least (follow b)) (own_bits b) s
+utf8_after (suc k) low n (b ∷ s) =
+    goes_on b && (fine k low (n * 64 + b % 64) && utf8_after k low (n * 64 + b % 64) s)
 
 unfoldable pub utf8 : List ℕ → Bool
-unfolding utf8After
-utf8 s = utf8After 0 0 0 s
+unfolding utf8_after
+utf8 s = utf8_after 0 0 0 s
 
 -- the bytes of a scalar value
 unfoldable pub encoded : ℕ → List ℕ

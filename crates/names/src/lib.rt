@@ -2,7 +2,7 @@
 // that it can: there is nothing to come back to.
 ghost use Rattle.std.specs.Prelude.{◌≡◌, ◌||◌, drop};
 ghost use Rattle.meaning.specs.Children.{from◌to◌};
-ghost use Rattle.meaning.specs.Text.{isDigit, startsName, isName, digits, unsigned, integerPart, fractionalPart, signedDigits, exponentPart, ends, isInt, is_float, same};
+ghost use Rattle.meaning.specs.Text.{is_digit, starts_name, is_name, digits, unsigned, integer_part, fractional_part, signed_digits, exponent_part, ends, is_int, is_float, same};
 ghost use Rattle.names.specs.Behind.{left, begins, PastDigits};
 
 // The place behind a part, or that the part does not stand there.
@@ -22,13 +22,13 @@ fn from_to(low: u8, high: u8, b: u8) -> bool
 }
 
 fn is_digit(b: u8) -> bool
-    ensures { result ≡ isDigit b }
+    ensures { result ≡ is_digit b }
 {
     from_to(b'0', b'9', b)
 }
 
 fn starts_name(b: u8) -> bool
-    ensures { result ≡ startsName b }
+    ensures { result ≡ starts_name b }
 {
     if b == b'_' {
         return true;
@@ -40,7 +40,7 @@ fn starts_name(b: u8) -> bool
 }
 
 pub fn goes_on_name(b: u8) -> bool
-    ensures { result ≡ (startsName b || isDigit b) }
+    ensures { result ≡ (starts_name b || is_digit b) }
 {
     if starts_name(b) {
         return true;
@@ -49,7 +49,7 @@ pub fn goes_on_name(b: u8) -> bool
 }
 
 pub fn is_name(s: &[u8]) -> bool
-    ensures { result ≡ isName s.now }
+    ensures { result ≡ is_name s.now }
 {
     if s.len() == 0 {
         return false;
@@ -112,7 +112,7 @@ fn unsigned(s: &[u8], i: usize) -> Behind
 }
 
 fn integer_part(s: &[u8], i: usize) -> Behind
-    ensures { left s.now result ≡ integerPart (drop i s.now) }
+    ensures { left s.now result ≡ integer_part (drop i s.now) }
 {
     if stands(s, i, b'-') {
         return unsigned(s, i + 1);
@@ -121,7 +121,7 @@ fn integer_part(s: &[u8], i: usize) -> Behind
 }
 
 fn fractional_part(s: &[u8], i: usize) -> Behind
-    ensures { left s.now result ≡ fractionalPart (drop i s.now) }
+    ensures { left s.now result ≡ fractional_part (drop i s.now) }
 {
     if stands(s, i, b'.') {
         return digits(s, i + 1);
@@ -130,7 +130,7 @@ fn fractional_part(s: &[u8], i: usize) -> Behind
 }
 
 fn signed_digits(s: &[u8], i: usize) -> Behind
-    ensures { left s.now result ≡ signedDigits (drop i s.now) }
+    ensures { left s.now result ≡ signed_digits (drop i s.now) }
 {
     if stands(s, i, b'+') {
         return digits(s, i + 1);
@@ -142,7 +142,7 @@ fn signed_digits(s: &[u8], i: usize) -> Behind
 }
 
 fn exponent_part(s: &[u8], i: usize) -> Behind
-    ensures { left s.now result ≡ exponentPart (drop i s.now) }
+    ensures { left s.now result ≡ exponent_part (drop i s.now) }
 {
     if stands(s, i, b'e') {
         return signed_digits(s, i + 1);
@@ -164,7 +164,7 @@ fn ends(s: &[u8], behind: Behind) -> bool
 }
 
 pub fn is_int(s: &[u8]) -> bool
-    ensures { result ≡ isInt s.now }
+    ensures { result ≡ is_int s.now }
 {
     ends(s, integer_part(s, 0))
 }

@@ -12,8 +12,8 @@ use lib.ListN.{length, get_or, set, length-set}
 use lib.Seq.{get_or-set_same, get_or-set_other}
 use borrow.Author.Tests.{lt-ltb, le-ltb}
 use Rattle.meaning.specs.Table.{end_at}
-use Rattle.meaning.specs.Refusals.{nestingFault}
-use Rattle.table_laws.specs.First.{some-no}
+use Rattle.meaning.specs.Refusals.{nesting_fault}
+use Rattle.table_laws.specs.First.{some_no}
 use Rattle.nesting.specs.Links.{NoCaps}
 
 -- what is known when the nodes before i are passed
@@ -27,8 +27,8 @@ pub record Capped (w : List ℕ) (n size : ℕ) (caps : List ℕ) (cap i : ℕ) 
   pub ends : (j : ℕ) → i < j → j ≤ n → 0 < get_or caps j 0 → (m : ℕ) × (m < i) × (end_at w m ≡ j)
   pub nested : (k j : ℕ) → k < j → j < i → j < end_at w k → end_at w j ≤ end_at w k
 
-pub none-capped : {w caps : List ℕ} {n cap : ℕ} → NoCaps n caps → Capped w n (length caps) caps cap 0
-none-capped z = record {
+pub none_capped : {w caps : List ℕ} {n cap : ℕ} → NoCaps n caps → Capped w n (length caps) caps cap 0
+none_capped z = record {
   low = omega arith;
   same = refl;
   next = λ k l h. absurd (omega arith);
@@ -68,8 +68,8 @@ module _
             let y = ap (end_at w) z in
             rw (get_or-set_other caps e j v 0 q) (omega (arith, y, none_inside j b u (omega (arith, y))))
 
-    ends-within : (k : ℕ) → k < i + 1 → i < end_at w k → e ≤ end_at w k
-    ends-within k a b = go (dec_lt k i)
+    ends_within : (k : ℕ) → k < i + 1 → i < end_at w k → e ≤ end_at w k
+    ends_within k a b = go (dec_lt k i)
       where
         go : Dec (k < i) → e ≤ end_at w k
         go (yes d) = open_at k d b
@@ -84,26 +84,26 @@ module _
             let (m, before, there) = p.ends j (omega arith) u (rw (get_or-set_other caps e j v 0 q) at h) in
             (m, omega arith, there)
 
-    none-crosses : (k j : ℕ) → k < j → j < i + 1 → j < end_at w k → end_at w j ≤ end_at w k
-    none-crosses k j a b c = go (dec_lt j i)
+    none_crosses : (k j : ℕ) → k < j → j < i + 1 → j < end_at w k → end_at w j ≤ end_at w k
+    none_crosses k j a b c = go (dec_lt j i)
       where
         go : Dec (j < i) → end_at w j ≤ end_at w k
         go (yes d) = p.nested k j a d c
         go (no d) = let z : j ≡ i = omega arith in omega (arith, ap (end_at w) z, open_at k (omega arith) (omega arith))
 
-    pub capped-more : Capped w n size (set caps e v) cap' (i + 1)
-    capped-more = record {
+    pub capped_more : Capped w n size (set caps e v) cap' (i + 1)
+    capped_more = record {
       low = omega arith;
       same = length-set caps e v ∙ p.same;
-      next = λ k a b. rw onward (max-le (kept k (i + 1) a (omega arith) (omega arith) b) (ends-within k a (omega arith)));
+      next = λ k a b. rw onward (max-le (kept k (i + 1) a (omega arith) (omega arith) b) (ends_within k a (omega arith)));
       later = λ k j a b u c. kept k j a (omega arith) u c;
       ends = ends_there;
-      nested = none-crosses;
+      nested = none_crosses;
     }
 
-pub no-crossing : {w caps : List ℕ} {n size cap i : ℕ} → Capped w n size caps cap i → n ≤ i → (k : ℕ) → end_at w k ≤ n → nestingFault w k ≡ false
-unfolding nestingFault
-no-crossing {w} {caps} {n} p all k u = some-no (λ j. ltb k j && ltb (end_at w k) (end_at w j)) (λ j l. go j l (dec_le j k))
+pub no_crossing : {w caps : List ℕ} {n size cap i : ℕ} → Capped w n size caps cap i → n ≤ i → (k : ℕ) → end_at w k ≤ n → nesting_fault w k ≡ false
+unfolding nesting_fault
+no_crossing {w} {caps} {n} p all k u = some_no (λ j. ltb k j && ltb (end_at w k) (end_at w j)) (λ j l. go j l (dec_le j k))
   where
     go : (j : ℕ) → j < end_at w k → Dec (j ≤ k) → ltb k j && ltb (end_at w k) (end_at w j) ≡ false
     go j l (yes g) = rw (le-ltb _ _ g)

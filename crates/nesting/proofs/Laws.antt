@@ -12,8 +12,8 @@ use lib.ListN.{length, get_or, set, length-set}
 use lib.Seq.{get_or-set_same, get_or-set_other}
 use borrow.Author.Tests.{lt-ltb, le-ltb}
 use Rattle.meaning.specs.Table.{end_at}
-use Rattle.meaning.specs.Refusals.{nestingFault}
-use Rattle.table_laws.specs.First.{some-yes, some-no, FirstFrom, from_end, from-hit, from-miss}
+use Rattle.meaning.specs.Refusals.{nesting_fault}
+use Rattle.table_laws.specs.First.{some_yes, some_no, FirstFrom, from_end, from_hit, from_miss}
 use Rattle.nesting.specs.Links.{Passes, EndsLater, Linked}
 
 module _ {w : List ℕ} {n : ℕ} where
@@ -30,15 +30,15 @@ module _ {w : List ℕ} {n : ℕ} where
           ⊎_elim (λ (e : j ≡ m). subst (λ (x : ℕ). end_at w x ≤ end_at w i) e h) (λ (l : j < m). le_trans (q.clear m l b) h) (eq-or-lt_of_le g)
 
   -- the next node that ends later lies in the subtree
-  pub outlasted : {i s : ℕ} → EndsLater w n i s → end_at w i ≤ n → s < end_at w i → nestingFault w i ≡ true
-  unfolding nestingFault
+  pub outlasted : {i s : ℕ} → EndsLater w n i s → end_at w i ≤ n → s < end_at w i → nesting_fault w i ≡ true
+  unfolding nesting_fault
   outlasted {i} {s} p e l =
-      some-yes (λ j. ltb i j && ltb (end_at w i) (end_at w j)) s l (rw (lt-ltb _ _ p.passes.after, lt-ltb _ _ (p.later (omega arith))))
+      some_yes (λ j. ltb i j && ltb (end_at w i) (end_at w j)) s l (rw (lt-ltb _ _ p.passes.after, lt-ltb _ _ (p.later (omega arith))))
 
   -- it lies behind the subtree
-  pub not-outlasted : {i s : ℕ} → Passes w n i s → end_at w i ≤ s → nestingFault w i ≡ false
-  unfolding nestingFault
-  not-outlasted {i} {s} p h = some-no (λ j. ltb i j && ltb (end_at w i) (end_at w j)) (λ k l. go k l (dec_le k i))
+  pub not_outlasted : {i s : ℕ} → Passes w n i s → end_at w i ≤ s → nesting_fault w i ≡ false
+  unfolding nesting_fault
+  not_outlasted {i} {s} p h = some_no (λ j. ltb i j && ltb (end_at w i) (end_at w j)) (λ k l. go k l (dec_le k i))
     where
       go : (k : ℕ) → k < end_at w i → Dec (k ≤ i) → ltb i k && ltb (end_at w i) (end_at w k) ≡ false
       go k l (yes g) = rw (le-ltb _ _ g)
@@ -49,7 +49,7 @@ pub record Scanned (w : List ℕ) (n size : ℕ) (links : List ℕ) (smallest i 
   pub low : i ≤ n
   pub same : length links ≡ size
   pub linked : Linked w n i links
-  pub from : FirstFrom (nestingFault w) i n smallest
+  pub from : FirstFrom (nesting_fault w) i n smallest
 
 pub scan_begins : {w links : List ℕ} {n : ℕ} → n ≤ length links → Scanned w n (length links) links n n
 scan_begins {n = n} h = record {
@@ -64,8 +64,8 @@ module _
     {w : List ℕ} {n size : ℕ} {links : List ℕ} {smallest i' i s : ℕ}
     (e : i' ≡ suc i) (p : Scanned w n size links smallest i') (q : EndsLater w n i s)
   where
-    linked-more : Linked w n i (set links i s)
-    linked-more = record { size = rw length-set p.linked.size; each = λ k a b. ⊎_elim (here k) (there k b) (eq-or-lt_of_le a) }
+    linked_more : Linked w n i (set links i s)
+    linked_more = record { size = rw length-set p.linked.size; each = λ k a b. ⊎_elim (here k) (there k b) (eq-or-lt_of_le a) }
       where
         here : (k : ℕ) → i ≡ k → EndsLater w n k (get_or (set links i s) k 0)
         here k g =
@@ -74,18 +74,18 @@ module _
         there : (k : ℕ) → k < n → i < k → EndsLater w n k (get_or (set links i s) k 0)
         there k b g = rw (get_or-set_other links i k s 0 (omega arith)) (p.linked.each k (omega arith) b)
 
-    pub scan-hit : {place : ℕ} → place ≡ i → end_at w i ≤ n → s < end_at w i → Scanned w n size (set links i s) place i
-    scan-hit g h l = record {
+    pub scan_hit : {place : ℕ} → place ≡ i → end_at w i ≤ n → s < end_at w i → Scanned w n size (set links i s) place i
+    scan_hit g h l = record {
       low = omega (arith, p.low);
       same = length-set links i s ∙ p.same;
-      linked = linked-more;
-      from = rw g (from-hit (omega (arith, p.low)) (outlasted q h l));
+      linked = linked_more;
+      from = rw g (from_hit (omega (arith, p.low)) (outlasted q h l));
     }
 
-    pub scan-miss : end_at w i ≤ s → Scanned w n size (set links i s) smallest i
-    scan-miss l = record {
+    pub scan_miss : end_at w i ≤ s → Scanned w n size (set links i s) smallest i
+    scan_miss l = record {
       low = omega (arith, p.low);
       same = length-set links i s ∙ p.same;
-      linked = linked-more;
-      from = from-miss (not-outlasted q.passes l) (subst (λ (x : ℕ). FirstFrom (nestingFault w) x n smallest) e p.from);
+      linked = linked_more;
+      from = from_miss (not_outlasted q.passes l) (subst (λ (x : ℕ). FirstFrom (nesting_fault w) x n smallest) e p.from);
     }

@@ -1,7 +1,7 @@
 // Refusal 4: a later node inside a node's subtree ends after it. The next node that ends later decides this, and links lead there.
 ghost use Rattle.std.specs.Prelude.{◌≡◌, true, false, ℕ, ◌+◌, ◌≤◌, ◌<◌, max, length};
 ghost use Rattle.meaning.specs.First.{first};
-ghost use Rattle.meaning.specs.Refusals.{nestingFault};
+ghost use Rattle.meaning.specs.Refusals.{nesting_fault};
 ghost use Rattle.nesting.specs.Links.{EndsWithin, EndsLater, Linked, NoCaps};
 
 use meaning::NodeNumber;
@@ -26,7 +26,7 @@ fn next_that_ends_later(words: &[u32], links: &[usize], n: usize, i: NodeNumber)
 // Links each node, from the last to the first: the fault that is met last is the smallest.
 fn scan(words: &[u32], links: &mut [usize], n: usize) -> NodeNumber
     requires { EndsWithin words.now n × (n ≤ length links.old) }
-    ensures { result.0 ≡ first (nestingFault words.now) n }
+    ensures { result.0 ≡ first (nesting_fault words.now) n }
 {
     let mut smallest = n;
     let mut i = n;
@@ -55,7 +55,7 @@ fn larger(a: usize, b: usize) -> usize
 // as far as the nodes passed that end there tell. This takes the same steps at each node, and most tables are as they should be.
 fn is_nested(words: &[u32], caps: &mut [usize], n: usize) -> bool
     requires { EndsWithin words.now n × NoCaps n caps.old }
-    ensures { result ≡ true → (k : ℕ) → k < n → nestingFault words.now k ≡ false }
+    ensures { result ≡ true → (k : ℕ) → k < n → nesting_fault words.now k ≡ false }
 {
     let mut cap = n;
     let mut i = 0;
@@ -74,7 +74,7 @@ fn is_nested(words: &[u32], caps: &mut [usize], n: usize) -> bool
 // The smallest node with the fault, or n; in time linear in n.
 pub fn first_nesting_fault(words: &[u32], n: usize) -> NodeNumber
     requires { EndsWithin words.now n }
-    ensures { result.0 ≡ first (nestingFault words.now) n }
+    ensures { result.0 ≡ first (nesting_fault words.now) n }
 {
     let mut links = [0usize; 8193];
     if is_nested(words, &mut links, n) {

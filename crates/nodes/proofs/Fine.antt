@@ -9,13 +9,13 @@ use lib.Dec.{eqb, ltb, leb}
 use lib.ListN.{length, get_or, set}
 use lib.Seq.{get_or-set_same, get_or-set_other}
 use borrow.Author.Tests.{lt-leb, le-ltb, eq-eqb, ne_eqb, ltb-true}
-use Rattle.base.specs.Bools.{clash, and-false}
+use Rattle.base.specs.Bools.{clash, and_false}
 use Rattle.base.specs.Finite.{all, below}
 use Rattle.meaning.specs.Ascii.{if◌then◌else◌}
 use Rattle.meaning.specs.Kind
 use Rattle.meaning.specs.Table.{nodes, kind_at, variant_at, start_at, length_at, end_at}
 use Rattle.meaning.specs.Children.{row_of}
-use Rattle.meaning.specs.Refusals.{takesNoText, kindFault, placeFault, endFault, nodeFault}
+use Rattle.meaning.specs.Refusals.{takes_no_text, kind_fault, place_fault, end_fault, node_fault}
 use Rattle.table.specs.Words.{Small}
 use Rattle.nodes.specs.Kinds.{textless}
 
@@ -28,12 +28,12 @@ filled_more f t k x l each e j h = go (dec_lt j k)
     go (yes d) = rw (get_or-set_other t k j x 0 (λ q. omega arith)) (each j d)
     go (no d) = let z : j ≡ k = omega arith in rw (z, get_or-set_same t k x 0 l) e
 
-pub few-variants : (k : ℕ) → k < Kind.count → (row_of k).variants < 256
+pub few_variants : (k : ℕ) → k < Kind.count → (row_of k).variants < 256
 unfolding row_of
-few-variants k l = ltb-true (row_of k).variants 256 (below (λ j. ltb (row_of j).variants 256) Kind.count refl k l)
+few_variants k l = ltb-true (row_of k).variants 256 (below (λ j. ltb (row_of j).variants 256) Kind.count refl k l)
 
-pub textless-digit : (k : ℕ) → textless k < 2
-textless-digit k = go (takesNoText (row_of k).text)
+pub textless_digit : (k : ℕ) → textless k < 2
+textless_digit k = go (takes_no_text (row_of k).text)
   where
     go : (b : Bool) → (if b then 1 else 0) < 2
     go true = omega arith
@@ -48,14 +48,14 @@ small_product x l h = go (ℕ_discrete x 0)
 
 -- ---- the three faults
 
-kind-fine : (w : List ℕ) (i k v : ℕ) → Small k (kind_at w i) → Small v (variant_at w i) → k < Kind.count → v < (row_of k).variants → kindFault w i ≡ false
-unfolding kindFault
-kind-fine w i k v kind variant known small =
+kind_fine : (w : List ℕ) (i k v : ℕ) → Small k (kind_at w i) → Small v (variant_at w i) → k < Kind.count → v < (row_of k).variants → kind_fault w i ≡ false
+unfolding kind_fault
+kind_fine w i k v kind variant known small =
     rw (← kind.is, ← variant.is, lt-leb Kind.count k known, lt-leb (row_of k).variants v small)
 
-text-fine : (s l : ℕ) (b : Bool) → s ≤ l * 4294967296 → (if b then 1 else 0) * l ≡ 0
+text_fine : (s l : ℕ) (b : Bool) → s ≤ l * 4294967296 → (if b then 1 else 0) * l ≡ 0
     → ((eqb l 0 && not (eqb s 0)) || ((b && not (eqb l 0)) || false)) ≡ false
-text-fine s l b h z = go (ℕ_discrete l 0) b z
+text_fine s l b h z = go (ℕ_discrete l 0) b z
   where
     go : Dec (l ≡ 0) → (b : Bool) → (if b then 1 else 0) * l ≡ 0 → ((eqb l 0 && not (eqb s 0)) || ((b && not (eqb l 0)) || false)) ≡ false
     go (yes q) true z = rw (eq-eqb l 0 q, eq-eqb s 0 (omega arith))
@@ -63,24 +63,24 @@ text-fine s l b h z = go (ℕ_discrete l 0) b z
     go (no q) true z = absurd (q (omega arith))
     go (no q) false z = rw (ne_eqb l 0 q)
 
-place-fine : (w p : List ℕ) (i k s l : ℕ) → Small k (kind_at w i) → Small s (start_at w i) → Small l (length_at w i)
-    → s + l ≤ length p → s ≤ l * 4294967296 → textless k * l ≡ 0 → placeFault w p i ≡ false
-unfolding placeFault
-place-fine w p i k s l kind start len within h z =
-    rw (← kind.is, ← start.is, ← len.is, le-ltb (length p) (s + l) within) (text-fine s l (takesNoText (row_of k).text) h z)
+place_fine : (w p : List ℕ) (i k s l : ℕ) → Small k (kind_at w i) → Small s (start_at w i) → Small l (length_at w i)
+    → s + l ≤ length p → s ≤ l * 4294967296 → textless k * l ≡ 0 → place_fault w p i ≡ false
+unfolding place_fault
+place_fine w p i k s l kind start len within h z =
+    rw (← kind.is, ← start.is, ← len.is, le-ltb (length p) (s + l) within) (text_fine s l (takes_no_text (row_of k).text) h z)
 
-end-fine : (w : List ℕ) (i k e : ℕ) → Small k (kind_at w i) → Small e (end_at w i) → 0 < i → i < e → e ≤ nodes w → (k ≡ Kind.document → ⊥) → endFault w i ≡ false
-unfolding endFault
-end-fine w i k e kind end later after within other =
+end_fine : (w : List ℕ) (i k e : ℕ) → Small k (kind_at w i) → Small e (end_at w i) → 0 < i → i < e → e ≤ nodes w → (k ≡ Kind.document → ⊥) → end_fault w i ≡ false
+unfolding end_fault
+end_fine w i k e kind end later after within other =
     rw (← kind.is, ← end.is, lt-leb e i after, le-ltb (nodes w) e within, ne_eqb i 0 (λ q. omega arith), ne_eqb k Kind.document other)
 
-pub no-fault : (w p : List ℕ) (i k v s l e : ℕ) → Small k (kind_at w i) → Small v (variant_at w i) → Small s (start_at w i) → Small l (length_at w i)
+pub no_fault : (w p : List ℕ) (i k v s l e : ℕ) → Small k (kind_at w i) → Small v (variant_at w i) → Small s (start_at w i) → Small l (length_at w i)
     → Small e (end_at w i) → 0 < i → k < Kind.count → v < (row_of k).variants → s + l ≤ length p → s ≤ l * 4294967296 → textless k * l ≡ 0
-    → i < e → e ≤ nodes w → (k ≡ Kind.document → ⊥) → nodeFault w p i ≡ false
-unfolding nodeFault
-no-fault w p i k v s l e kind variant start len end later known small within h z after inside other =
+    → i < e → e ≤ nodes w → (k ≡ Kind.document → ⊥) → node_fault w p i ≡ false
+unfolding node_fault
+no_fault w p i k v s l e kind variant start len end later known small within h z after inside other =
     rw (
-      kind-fine w i k v kind variant known small,
-      place-fine w p i k s l kind start len within h z,
-      end-fine w i k e kind end later after inside other,
+      kind_fine w i k v kind variant known small,
+      place_fine w p i k s l kind start len within h z,
+      end_fine w i k e kind end later after inside other,
     )

@@ -2,16 +2,16 @@
 use mathlib.Core.Path.{◌≡◌, refl}
 use mathlib.Core.Bool.{Bool, true, false, ◌&&◌, ◌||◌}
 
-pub only-test : (a : Bool) → a ≡ a || false
-only-test true = refl
-only-test false = refl
+pub only_test : (a : Bool) → a ≡ a || false
+only_test true = refl
+only_test false = refl
 
 -- of an empty text only the start counts, of another only whether one is allowed
-pub empty-text : (start textless : Bool) → start ≡ start || (textless && false || false)
-empty-text true textless = refl
-empty-text false true = refl
-empty-text false false = refl
+pub empty_text : (start textless : Bool) → start ≡ start || (textless && false || false)
+empty_text true textless = refl
+empty_text false true = refl
+empty_text false false = refl
 
-pub some-text : (textless : Bool) → textless ≡ textless && true || false
-some-text true = refl
-some-text false = refl
+pub some_text : (textless : Bool) → textless ≡ textless && true || false
+some_text true = refl
+some_text false = refl

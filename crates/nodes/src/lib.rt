@@ -3,7 +3,7 @@ ghost use Rattle.std.specs.Prelude.{◌≡◌, true, false, ◌<◌, length};
 ghost use Rattle.meaning.specs.First.{first};
 ghost use Rattle.meaning.specs.Table.{nodes, kind_at};
 ghost use Rattle.meaning.specs.Children.{row_of};
-ghost use Rattle.meaning.specs.Refusals.{takesNoText, kindFault, placeFault, endFault, nodeFault};
+ghost use Rattle.meaning.specs.Refusals.{takes_no_text, kind_fault, place_fault, end_fault, node_fault};
 ghost use Rattle.table.specs.Words.{InTable};
 ghost use Rattle.nodes.specs.Counted.{Counted};
 ghost use Rattle.nodes.specs.Kinds.{VariantsOf, Textless, textless};
@@ -43,7 +43,7 @@ fn variants_of(kind: usize) -> usize
 
 fn takes_no_text(kind: usize) -> bool
     requires { kind < 45 }
-    ensures { result ≡ takesNoText (row_of kind).text }
+    ensures { result ≡ takes_no_text (row_of kind).text }
 {
     match kind {
         // Document
@@ -63,7 +63,7 @@ fn takes_no_text(kind: usize) -> bool
 
 fn kind_fault(words: &[u32], i: NodeNumber) -> bool
     requires { InTable words.now i.0 }
-    ensures { result ≡ kindFault words.now i.0 }
+    ensures { result ≡ kind_fault words.now i.0 }
 {
     let kind = table::kind(words, i);
     if KINDS <= kind {
@@ -75,7 +75,7 @@ fn kind_fault(words: &[u32], i: NodeNumber) -> bool
 // Start and length are 32 bits each, so that their sum does not wrap.
 fn place_fault(words: &[u32], pool: &[u8], i: NodeNumber) -> bool
     requires { InTable words.now i.0 × (kind_at words.now i.0 < 45) }
-    ensures { result ≡ placeFault words.now pool.now i.0 }
+    ensures { result ≡ place_fault words.now pool.now i.0 }
 {
     let start = table::start(words, i);
     let length = table::length(words, i);
@@ -91,7 +91,7 @@ fn place_fault(words: &[u32], pool: &[u8], i: NodeNumber) -> bool
 // `n` is the number of the table's nodes.
 fn end_fault(words: &[u32], i: NodeNumber, n: usize) -> bool
     requires { InTable words.now i.0 × (n ≡ nodes words.now) }
-    ensures { result ≡ endFault words.now i.0 }
+    ensures { result ≡ end_fault words.now i.0 }
 {
     let end = table::end(words, i);
     if end <= i.0 {
@@ -112,7 +112,7 @@ fn end_fault(words: &[u32], i: NodeNumber, n: usize) -> bool
 
 fn node_fault(words: &[u32], pool: &[u8], i: NodeNumber, n: usize) -> bool
     requires { InTable words.now i.0 × (n ≡ nodes words.now) }
-    ensures { result ≡ nodeFault words.now pool.now i.0 }
+    ensures { result ≡ node_fault words.now pool.now i.0 }
 {
     if kind_fault(words, i) {
         return true;
@@ -172,7 +172,7 @@ fn is_fine(
     n: usize,
 ) -> bool
     requires { InTable words.now i.0 × (n ≡ nodes words.now) × VariantsOf variants.now × Textless textless.now }
-    ensures { result ≡ true → nodeFault words.now pool.now i.0 ≡ false }
+    ensures { result ≡ true → node_fault words.now pool.now i.0 ≡ false }
 {
     let at = i.0;
     if at == 0 {
@@ -215,7 +215,7 @@ fn fault_at(
     n: usize,
 ) -> bool
     requires { InTable words.now i.0 × (n ≡ nodes words.now) × VariantsOf variants.now × Textless textless.now }
-    ensures { result ≡ nodeFault words.now pool.now i.0 }
+    ensures { result ≡ node_fault words.now pool.now i.0 }
 {
     if is_fine(words, pool, variants, textless, i, n) {
         return false;
@@ -232,7 +232,7 @@ fn first_fault(
     n: usize,
 ) -> NodeNumber
     requires { Counted words.now n × VariantsOf variants.now × Textless textless.now }
-    ensures { result.0 ≡ first (nodeFault words.now pool.now) n }
+    ensures { result.0 ≡ first (node_fault words.now pool.now) n }
 {
     let mut i = 0;
     while i < n {
@@ -247,7 +247,7 @@ fn first_fault(
 // The smallest node with the fault, or the number of nodes.
 pub fn first_node_fault(words: &[u32], pool: &[u8], n: usize) -> NodeNumber
     requires { Counted words.now n }
-    ensures { result.0 ≡ first (nodeFault words.now pool.now) n }
+    ensures { result.0 ≡ first (node_fault words.now pool.now) n }
 {
     let mut variants = [0u8; 45];
     fill_variants(&mut variants);

@@ -1,13 +1,13 @@
 // An answer as document 01's numbers: 0 for success; the place; the length.
 ghost use Rattle.std.specs.Prelude.{◌≡◌};
 ghost use Rattle.std.proofs.Math.Option.{some};
-ghost use Rattle.meaning.specs.Answers.{refusalAnswer, checkedAnswer, printedAnswer, readingAnswer, formRead};
-ghost use Rattle.numbers.specs.Forms.{formNumber};
+ghost use Rattle.meaning.specs.Answers.{refusal_answer, checked_answer, printed_answer, reading_answer, form_read};
+ghost use Rattle.numbers.specs.Forms.{form_number};
 
 use meaning::{Checked, Form, NodeNumber, Printed, Reading, Refusal};
 
 pub fn number(r: Refusal) -> u32
-    ensures { result ≡ (refusalAnswer r).number }
+    ensures { result ≡ (refusal_answer r).number }
 {
     match r {
         Refusal::Settings => 1,
@@ -29,7 +29,7 @@ fn node(i: NodeNumber) -> u64
 }
 
 pub fn place_of(r: Refusal) -> u64
-    ensures { result ≡ (refusalAnswer r).place }
+    ensures { result ≡ (refusal_answer r).place }
 {
     match r {
         Refusal::Settings => 0,
@@ -45,7 +45,7 @@ pub fn place_of(r: Refusal) -> u64
 }
 
 pub fn needed(r: Refusal) -> u64
-    ensures { result ≡ (refusalAnswer r).length }
+    ensures { result ≡ (refusal_answer r).length }
 {
     match r {
         Refusal::Settings => 0,
@@ -61,7 +61,7 @@ pub fn needed(r: Refusal) -> u64
 }
 
 pub fn checked_number(c: Checked) -> u32
-    ensures { result ≡ (checkedAnswer c).number }
+    ensures { result ≡ (checked_answer c).number }
 {
     let Checked::Refused(why) = c else {
         return 0;
@@ -70,7 +70,7 @@ pub fn checked_number(c: Checked) -> u32
 }
 
 pub fn checked_place(c: Checked) -> u64
-    ensures { result ≡ (checkedAnswer c).place }
+    ensures { result ≡ (checked_answer c).place }
 {
     let Checked::Refused(why) = c else {
         return 0;
@@ -79,7 +79,7 @@ pub fn checked_place(c: Checked) -> u64
 }
 
 pub fn printed_number(p: Printed) -> u32
-    ensures { result ≡ (printedAnswer p).number }
+    ensures { result ≡ (printed_answer p).number }
 {
     let Printed::Refused(r) = p else {
         return 0;
@@ -88,7 +88,7 @@ pub fn printed_number(p: Printed) -> u32
 }
 
 pub fn printed_place(p: Printed) -> u64
-    ensures { result ≡ (printedAnswer p).place }
+    ensures { result ≡ (printed_answer p).place }
 {
     let Printed::Refused(r) = p else {
         return 0;
@@ -97,7 +97,7 @@ pub fn printed_place(p: Printed) -> u64
 }
 
 pub fn printed_length(p: Printed) -> u64
-    ensures { result ≡ (printedAnswer p).length }
+    ensures { result ≡ (printed_answer p).length }
 {
     match p {
         Printed::Written(n) => n.0 as u64,
@@ -106,7 +106,7 @@ pub fn printed_length(p: Printed) -> u64
 }
 
 pub fn reading_number(r: Reading) -> u32
-    ensures { result ≡ (readingAnswer r).0.number }
+    ensures { result ≡ (reading_answer r).0.number }
 {
     let Reading::Refused(why) = r else {
         return 0;
@@ -115,7 +115,7 @@ pub fn reading_number(r: Reading) -> u32
 }
 
 pub fn reading_length(r: Reading) -> u64
-    ensures { result ≡ (readingAnswer r).0.length }
+    ensures { result ≡ (reading_answer r).0.length }
 {
     match r {
         Reading::Value(_, n) => n.0 as u64,
@@ -125,7 +125,7 @@ pub fn reading_length(r: Reading) -> u64
 
 // 1 quoted, 2 block; 0 is for none.
 pub fn form_number(f: Form) -> u32
-    ensures { result ≡ formNumber (some (formRead f)) }
+    ensures { result ≡ form_number (some (form_read f)) }
 {
     match f {
         Form::Quoted => 1,

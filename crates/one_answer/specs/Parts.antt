@@ -15,7 +15,7 @@ pub one_word : {r s word : ℕ} → Small r word → Small s word → r ≡ s
 one_word x y = one_value x.is y.is
 
 -- `vector_lines::past`
-pub one-past-stop : {s : List ℕ} {i stop q r : ℕ} → Past s i stop q → Past s i stop r → q ≡ r
-one-past-stop {s} {i} {stop} {q} {r} x y =
+pub one_past_stop : {s : List ℕ} {i stop q r : ℕ} → Past s i stop q → Past s i stop r → q ≡ r
+one_past_stop {s} {i} {stop} {q} {r} x y =
     let e = ap length (one_value x.rest y.rest) in
     omega (arith, e, x.within, y.within, length-drop q s, length-drop r s)

@@ -14,42 +14,42 @@ use Rattle.layout.specs.Did.{Walked, Did}
 use Rattle.layout.specs.Kids.{kids}
 use Rattle.one_answer.specs.Entries.{one_value}
 
-abbrev penAt : ℕ → Pen
-penAt i = record { at = record { 0 = i } }
+abbrev pen_at : ℕ → Pen
+pen_at i = record { at = record { 0 = i } }
 
-pub one-start : {p q : Pen} → AtStart p → AtStart q → p ≡ q
-one-start x y = ap penAt (one_value x.place y.place)
+pub one_start : {p q : Pen} → AtStart p → AtStart q → p ≡ q
+one_start x y = ap pen_at (one_value x.place y.place)
 
-pub one-wrote : {d : List ℕ} {p : Pen} {t d' d'' : List ℕ} {q r : Pen} → Wrote d p t d' q → Wrote d p t d'' r → (d' ≡ d'') × (q ≡ r)
-one-wrote x y = (one_value x.text y.text, ap penAt (one_value x.place y.place))
+pub one_wrote : {d : List ℕ} {p : Pen} {t d' d'' : List ℕ} {q r : Pen} → Wrote d p t d' q → Wrote d p t d'' r → (d' ≡ d'') × (q ≡ r)
+one_wrote x y = (one_value x.text y.text, ap pen_at (one_value x.place y.place))
 
-abbrev walkAt : ℕ → Pen → Walk
-walkAt i p = record { node = record { 0 = i }; pen = p }
+abbrev walk_at : ℕ → Pen → Walk
+walk_at i p = record { node = record { 0 = i }; pen = p }
 
-same-walk : {q r : Walk} → q.node.0 ≡ r.node.0 → q.pen ≡ r.pen → q ≡ r
-same-walk {q} {r} e f = ap (λ (i : ℕ). walkAt i q.pen) e ∙ ap (λ (p : Pen). walkAt r.node.0 p) f
+same_walk : {q r : Walk} → q.node.0 ≡ r.node.0 → q.pen ≡ r.pen → q ≡ r
+same_walk {q} {r} e f = ap (λ (i : ℕ). walk_at i q.pen) e ∙ ap (λ (p : Pen). walk_at r.node.0 p) f
 
 pub one_kept : {d : List ℕ} {at : Walk} {t d' d'' : List ℕ} {q r : Walk} → Kept d at t d' q → Kept d at t d'' r → (d' ≡ d'') × (q ≡ r)
 one_kept x y =
-    let w = one-wrote x.wrote y.wrote in
-    (w.0, same-walk (one_value x.node y.node) w.1)
+    let w = one_wrote x.wrote y.wrote in
+    (w.0, same_walk (one_value x.node y.node) w.1)
 
-pub one-past : {w : List ℕ} {at q r : Walk} → Past w at q → Past w at r → q ≡ r
-one-past x y = same-walk (one_value x.node y.node) (one_value x.pen y.pen)
+pub one_past : {w : List ℕ} {at q r : Walk} → Past w at q → Past w at r → q ≡ r
+one_past x y = same_walk (one_value x.node y.node) (one_value x.pen y.pen)
 
 -- of a walk over children the statement fixes those that are left and not the number of the node that they begin at: past the last child
 -- any number leaves none
-pub one-walked : {w p : List ℕ} {e : ℕ} {t : List ℕ} {rs : List Child} {d : List ℕ} {at : Walk} {d' d'' : List ℕ} {q r : Walk}
+pub one_walked : {w p : List ℕ} {e : ℕ} {t : List ℕ} {rs : List Child} {d : List ℕ} {at : Walk} {d' d'' : List ℕ} {q r : Walk}
     → Walked w p e t rs d at d' q → Walked w p e t rs d at d'' r
     → (d' ≡ d'') × (q.pen ≡ r.pen) × (kids w p q.node.0 e ≡ kids w p r.node.0 e)
-one-walked x y =
-    let w = one-wrote x.wrote y.wrote in
+one_walked x y =
+    let w = one_wrote x.wrote y.wrote in
     (w.0, w.1, one_value x.left y.left)
 
-pub one-did : {w p : List ℕ} {s : Settings} {n e : ℕ} {ps : List Part} {d : List ℕ} {at : Walk} {d' d'' : List ℕ} {q r : Walk}
+pub one_did : {w p : List ℕ} {s : Settings} {n e : ℕ} {ps : List Part} {d : List ℕ} {at : Walk} {d' d'' : List ℕ} {q r : Walk}
     → Did w p s n e ps d at d' q → Did w p s n e ps d at d'' r
     → (d' ≡ d'') × (q.pen ≡ r.pen) × (kids w p q.node.0 e ≡ kids w p r.node.0 e)
-one-did x y = one-walked x.walked y.walked
+one_did x y = one_walked x.walked y.walked
 
 -- `deeper`, `on_single_line`, `single_line_unless`
 pub one_state : {r s : State} (f : List ℕ → Settings) → ((p : List ℕ) → under r p ≡ f p) → ((p : List ℕ) → under s p ≡ f p) → r ≡ s

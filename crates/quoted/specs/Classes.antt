@@ -13,12 +13,12 @@ unfoldable pub classes : List ℕ
 unfolding values class
 classes = values class 0 256
 
-values-at : (f : ℕ → ℕ) (i n k : ℕ) → k < n → get_or (values f i n) k 0 ≡ f (i + k)
+values_at : (f : ℕ → ℕ) (i n k : ℕ) → k < n → get_or (values f i n) k 0 ≡ f (i + k)
 unfolding values
-values-at f i zero k h = absurd (not-suc-le-zero h)
-values-at f i (suc n) zero h = rw add-zero
-values-at f i (suc n) (suc k) h = rw (add-suc, ← suc-add) (values-at f (suc i) n k (le_of_suc-le-suc h))
+values_at f i zero k h = absurd (not-suc-le-zero h)
+values_at f i (suc n) zero h = rw add-zero
+values_at f i (suc n) (suc k) h = rw (add-suc, ← suc-add) (values_at f (suc i) n k (le_of_suc-le-suc h))
 
-pub class-at : (b : ℕ) → b < 256 → get_or classes b 0 ≡ class b
+pub class_at : (b : ℕ) → b < 256 → get_or classes b 0 ≡ class b
 unfolding classes
-class-at b h = values-at class 0 256 b h ∙ ap class (zero-add b)
+class_at b h = values_at class 0 256 b h ∙ ap class (zero-add b)

@@ -1,9 +1,9 @@
 // The quoted form of a string value: what need not be escaped is copied a run at a time, as in `serialize_string_value`.
 ghost use Rattle.std.specs.Prelude.{◌≡◌, ◌+◌, ◌<◌, drop};
-ghost use Rattle.meaning.specs.Quoted.{class, hexDigit, escaped, body, quoted};
+ghost use Rattle.meaning.specs.Quoted.{class, hex_digit, escaped, body, quoted};
 ghost use Rattle.pen.specs.Wrote.{Wrote};
 ghost use Rattle.quoted.specs.Classes.{classes};
-ghost use Rattle.quoted.specs.CleanRun.{cleanRun};
+ghost use Rattle.quoted.specs.CleanRun.{clean_run};
 
 // The class of each byte value: 0 stands for itself, any other is the letter after its backslash.
 const CLASSES: [u8; 256] = [
@@ -42,7 +42,7 @@ pub fn class_of(table: &[u8; 256], b: u8) -> u8
 // The place of the next byte to be escaped, at or after `from`, or the end.
 pub fn next_escape(table: &[u8; 256], value: &[u8], from: usize) -> usize
     requires { table.now ≡ classes }
-    ensures { result ≡ from + cleanRun (drop from value.now) }
+    ensures { result ≡ from + clean_run (drop from value.now) }
 {
     let mut i = from;
     while i < value.len() {
@@ -56,7 +56,7 @@ pub fn next_escape(table: &[u8; 256], value: &[u8], from: usize) -> usize
 
 fn hex_digit(n: u8) -> u8
     requires { n < 16 }
-    ensures { result ≡ hexDigit n }
+    ensures { result ≡ hex_digit n }
 {
     if n < 10 {
         return 0x30 + n;

@@ -4,6 +4,6 @@ use Rattle.std.specs.Prelude.{ℕ}
 use Rattle.read_block.specs.declared.Indent.{Indent}
 use Rattle.read_block.specs.declared.Indent.TheVariants.{Unknown, Least}
 
-abbrev pub indentSeen : Indent → Option ℕ
-indentSeen Unknown = none
-indentSeen (Least n) = some n
+abbrev pub indent_seen : Indent → Option ℕ
+indent_seen Unknown = none
+indent_seen (Least n) = some n

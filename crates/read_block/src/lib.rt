@@ -1,22 +1,22 @@
 // Reads one block string straight from its source: no line is copied before it is written.
 ghost use Rattle.std.specs.Prelude.{◌≡◌, ◌+◌, ◌≤◌, ◌<◌, min, length, take, drop};
-ghost use Rattle.meaning.specs.Block.{indent, commonIndent, blockStringValue};
-ghost use Rattle.meaning.specs.Reading.{blockForm, value, blockFront, characters, asBlock};
+ghost use Rattle.meaning.specs.Block.{indent, common_indent, block_string_value};
+ghost use Rattle.meaning.specs.Reading.{block_form, value, block_front, characters, as_block};
 ghost use Rattle.meaning.specs.declared.Form.TheVariants.{Block};
 ghost use Rattle.meaning.specs.declared.Reading.TheVariants.{Value};
-ghost use Rattle.meaning.specs.Answers.{readingAnswer};
+ghost use Rattle.meaning.specs.Answers.{reading_answer};
 ghost use Rattle.meaning.specs.Entries.{read_of};
 ghost use Rattle.pen.specs.Wrote.{Wrote};
 ghost use Rattle.read_block_laws.specs.Unescaped.{escapes, unescaped};
 ghost use Rattle.read_block_laws.specs.Closing.{closed};
-ghost use Rattle.read_block_laws.specs.FirstLine.{isLineEnd, lineLength, lines_of};
+ghost use Rattle.read_block_laws.specs.FirstLine.{is_line_end, line_length, lines_of};
 ghost use Rattle.read_block_laws.specs.Outdented.{number_of};
 ghost use Rattle.read_block_laws.specs.TrimmedFront.{StartsAt};
-ghost use Rattle.read_block_laws.specs.TrimmedEnd.{isWhite, EndsAt};
-ghost use Rattle.read_block_laws.specs.LeastIndent.{withLine};
-ghost use Rattle.read_block_laws.specs.Text.{stops, runLength, endLength, text_of};
-ghost use Rattle.read_block_laws.specs.Plain.{isMark, marked, Plain};
-ghost use Rattle.read_block.specs.Indent.{indentSeen};
+ghost use Rattle.read_block_laws.specs.TrimmedEnd.{is_white, EndsAt};
+ghost use Rattle.read_block_laws.specs.LeastIndent.{with_line};
+ghost use Rattle.read_block_laws.specs.Text.{stops, run_length, end_length, text_of};
+ghost use Rattle.read_block_laws.specs.Plain.{is_mark, marked, Plain};
+ghost use Rattle.read_block.specs.Indent.{indent_seen};
 
 const LINE_FEED: u8 = 0x0A;
 
@@ -27,13 +27,13 @@ const QUOTE: u8 = 0x22;
 const BACKSLASH: u8 = 0x5C;
 
 fn is_line_end(b: u8) -> bool
-    ensures { result ≡ isLineEnd b }
+    ensures { result ≡ is_line_end b }
 {
     (b == LINE_FEED) | (b == CARRIAGE_RETURN)
 }
 
 fn is_white(b: u8) -> bool
-    ensures { result ≡ isWhite b }
+    ensures { result ≡ is_white b }
 {
     is_line_end(b) | marks::is_blank(b)
 }
@@ -53,7 +53,7 @@ fn is_escape(s: &[u8], i: usize) -> bool
 
 // LF, CR, a quote or a backslash. Nothing branches, so that sixteen bytes are tested at once.
 fn is_mark(b: u8) -> bool
-    ensures { result ≡ isMark b }
+    ensures { result ≡ is_mark b }
 {
     (b == LINE_FEED) | (b == CARRIAGE_RETURN) | (b == QUOTE) | (b == BACKSLASH)
 }
@@ -137,7 +137,7 @@ fn blanks_end(s: &[u8], i: usize) -> usize
 // Where the line ends that goes on at `i`.
 fn line_end(s: &[u8], i: usize) -> usize
     requires { i ≤ length s.now }
-    ensures { result ≡ i + lineLength (drop i s.now) }
+    ensures { result ≡ i + line_length (drop i s.now) }
 {
     let mut j = past_plain(s, i);
     while j < s.len() {
@@ -190,7 +190,7 @@ enum Indent {
 
 // With a line of so many bytes, of which the first are blanks. A line of blanks alone does not count.
 fn with_line(seen: Indent, blanks: usize, length: usize) -> Indent
-    ensures { indentSeen result ≡ withLine blanks length (indentSeen seen) }
+    ensures { indent_seen result ≡ with_line blanks length (indent_seen seen) }
 {
     if length <= blanks {
         return seen;
@@ -205,7 +205,7 @@ fn with_line(seen: Indent, blanks: usize, length: usize) -> Indent
 }
 
 fn number(seen: Indent) -> usize
-    ensures { result ≡ number_of (indentSeen seen) }
+    ensures { result ≡ number_of (indent_seen seen) }
 {
     match seen {
         Indent::Unknown => 0,
@@ -215,7 +215,7 @@ fn number(seen: Indent) -> usize
 
 // The least indent of the lines from `from` on that are not blank; 0 where all are.
 fn common_indent(s: &[u8], from: usize) -> usize
-    ensures { result ≡ number_of (commonIndent (lines_of (drop from s.now))) }
+    ensures { result ≡ number_of (common_indent (lines_of (drop from s.now))) }
 {
     let mut i = from;
     let mut seen = Indent::Unknown;
@@ -253,7 +253,7 @@ fn stops_at(s: &[u8], i: usize) -> bool
 // Where the bytes from `i` on that stand for themselves end.
 fn run_end(s: &[u8], i: usize) -> usize
     requires { i ≤ length s.now }
-    ensures { result ≡ i + runLength (drop i s.now) }
+    ensures { result ≡ i + run_length (drop i s.now) }
 {
     let mut j = past_plain(s, i);
     while j < s.len() {
@@ -268,7 +268,7 @@ fn run_end(s: &[u8], i: usize) -> usize
 // Behind the line end at `e`; CR LF is one.
 fn past_line_end(s: &[u8], e: usize) -> usize
     requires { e < length s.now }
-    ensures { result ≡ e + endLength (drop e s.now) }
+    ensures { result ≡ e + end_length (drop e s.now) }
 {
     let next = e + 1;
     if s[e] != CARRIAGE_RETURN {
@@ -315,8 +315,8 @@ fn value_of(p: pen::Pen) -> meaning::Reading
 
 // Writes the source from `from` on where there is room. It is measured first, unless its length shows that it fits.
 fn write_value(s: &[u8], from: usize, n: usize, out: &mut [u8]) -> meaning::Reading
-    ensures { ((readingAnswer result).0, (readingAnswer result).1, out.new)
-        ≡ read_of (value blockForm (text_of n (drop from s.now))) out.old }
+    ensures { ((reading_answer result).0, (reading_answer result).1, out.new)
+        ≡ read_of (value block_form (text_of n (drop from s.now))) out.old }
 {
     let pen = pen::start();
     if s.len() <= out.len() {
@@ -331,8 +331,8 @@ fn write_value(s: &[u8], from: usize, n: usize, out: &mut [u8]) -> meaning::Read
 
 // The source between the quotes.
 fn read_source(s: &[u8], out: &mut [u8]) -> meaning::Reading
-    ensures { ((readingAnswer result).0, (readingAnswer result).1, out.new)
-        ≡ read_of (value blockForm (blockStringValue (unescaped s.now))) out.old }
+    ensures { ((reading_answer result).0, (reading_answer result).1, out.new)
+        ≡ read_of (value block_form (block_string_value (unescaped s.now))) out.old }
 {
     let start = text_start(s);
     let rest = &s[start..];
@@ -348,8 +348,8 @@ fn read_source(s: &[u8], out: &mut [u8]) -> meaning::Reading
 
 // Reads a text that begins with three quotes as one block string into `out`.
 pub fn read_block(text: &[u8], out: &mut [u8]) -> meaning::Reading
-    ensures { ((readingAnswer result).0, (readingAnswer result).1, out.new)
-        ≡ read_of (asBlock (characters blockFront 0 (drop 3 text.now))) out.old }
+    ensures { ((reading_answer result).0, (reading_answer result).1, out.new)
+        ≡ read_of (as_block (characters block_front 0 (drop 3 text.now))) out.old }
 {
     if text.len() < 3 {
         return meaning::Reading::Refused(meaning::Refusal::Literal);

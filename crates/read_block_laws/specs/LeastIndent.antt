@@ -7,10 +7,10 @@ use Rattle.std.proofs.Math.Option.{Option, none, some}
 use native.Mathlib.Omega.{arith}
 use Rattle.std.proofs.Math.Decide.{dec_le}
 use borrow.Author.Tests.{lt-ltb, le-ltb}
-use Rattle.meaning.specs.Ascii.{if◌then◌else◌, carriageReturn}
+use Rattle.meaning.specs.Ascii.{if◌then◌else◌, carriage_return}
 use Rattle.meaning.specs.Settings.{blank}
-use Rattle.meaning.specs.Block.{indent, lesser, commonIndent, rawLinesAfter}
-use Rattle.read_block_laws.specs.FirstLine.{isLineEnd, lineLength, lines_of, otherLines, first-line-and-others, others-after, no-others, cr-before, first-line-within, blanks-before-line-end, first-line-indent, blank-up-to, not-blank-past}
+use Rattle.meaning.specs.Block.{indent, lesser, common_indent, raw_lines_after}
+use Rattle.read_block_laws.specs.FirstLine.{is_line_end, line_length, lines_of, other_lines, first_line_and_others, others_after, no_others, cr_before, first_line_within, blanks_before_line_end, first_line_indent, blank_up_to, not_blank_past}
 
 -- the indent of lines seen and of lines to come
 unfoldable pub merged : Option ℕ → Option ℕ → Option ℕ
@@ -18,113 +18,113 @@ merged none x = x
 merged (some n) x = lesser n x
 
 -- with a line of so many blanks and so many bytes, which counts unless all are blanks
-unfoldable pub withLine : ℕ → ℕ → Option ℕ → Option ℕ
-withLine n l o = if ltb n l then lesser n o else o
+unfoldable pub with_line : ℕ → ℕ → Option ℕ → Option ℕ
+with_line n l o = if ltb n l then lesser n o else o
 
-pub blank-line-leaves : (n l : ℕ) (o : Option ℕ) → l ≤ n → o ≡ withLine n l o
-unfolding withLine
-blank-line-leaves n l o h = rw (le-ltb n l h)
+pub blank_line_leaves : (n l : ℕ) (o : Option ℕ) → l ≤ n → o ≡ with_line n l o
+unfolding with_line
+blank_line_leaves n l o h = rw (le-ltb n l h)
 
 module _ (n l : ℕ) (h : n < l) where
-  pub first-line-gives : some n ≡ withLine n l none
-  unfolding withLine lesser
-  first-line-gives = rw (lt-ltb n l h)
+  pub first_line_gives : some n ≡ with_line n l none
+  unfolding with_line lesser
+  first_line_gives = rw (lt-ltb n l h)
 
-  pub deeper-line-leaves : (m : ℕ) → m < n → some m ≡ withLine n l (some m)
-  unfolding withLine lesser
-  deeper-line-leaves m k = rw (lt-ltb n l h) (ap some (omega arith))
+  pub deeper_line_leaves : (m : ℕ) → m < n → some m ≡ with_line n l (some m)
+  unfolding with_line lesser
+  deeper_line_leaves m k = rw (lt-ltb n l h) (ap some (omega arith))
 
-  pub lesser-line-gives : (m : ℕ) → n ≤ m → some n ≡ withLine n l (some m)
-  unfolding withLine lesser
-  lesser-line-gives m k = rw (lt-ltb n l h) (ap some (omega arith))
+  pub lesser_line_gives : (m : ℕ) → n ≤ m → some n ≡ with_line n l (some m)
+  unfolding with_line lesser
+  lesser_line_gives m k = rw (lt-ltb n l h) (ap some (omega arith))
 
-merged-none : (o : Option ℕ) → merged o none ≡ o
+merged_none : (o : Option ℕ) → merged o none ≡ o
 unfolding merged lesser
-merged-none none = refl
-merged-none (some n) = refl
+merged_none none = refl
+merged_none (some n) = refl
 
-merged-lesser : (n : ℕ) (o x : Option ℕ) → merged o (lesser n x) ≡ merged (lesser n o) x
+merged_lesser : (n : ℕ) (o x : Option ℕ) → merged o (lesser n x) ≡ merged (lesser n o) x
 unfolding merged lesser
-merged-lesser n none x = refl
-merged-lesser n (some m) none = ap some (omega arith)
-merged-lesser n (some m) (some k) = ap some (omega arith)
+merged_lesser n none x = refl
+merged_lesser n (some m) none = ap some (omega arith)
+merged_lesser n (some m) (some k) = ap some (omega arith)
 
-pub nothing-merged : (x : Option ℕ) → merged none x ≡ x
+pub nothing_merged : (x : Option ℕ) → merged none x ≡ x
 unfolding merged
-nothing-merged x = refl
+nothing_merged x = refl
 
-empty-line-does-not-count : (ls : List (List ℕ)) → commonIndent ([] ∷ ls) ≡ commonIndent ls
-unfolding commonIndent blank
-empty-line-does-not-count ls = refl
+empty_line_does_not_count : (ls : List (List ℕ)) → common_indent ([] ∷ ls) ≡ common_indent ls
+unfolding common_indent blank
+empty_line_does_not_count ls = refl
 
-line-merged : (o : Option ℕ) (t : List ℕ)
-    → merged o (commonIndent (lines_of t))
-    ≡ merged (withLine (indent t) (lineLength t) o) (commonIndent (otherLines (drop (lineLength t) t)))
-line-merged o t = rw (first-line-and-others t) (go (dec_le (lineLength t) (indent t)))
+line_merged : (o : Option ℕ) (t : List ℕ)
+    → merged o (common_indent (lines_of t))
+    ≡ merged (with_line (indent t) (line_length t) o) (common_indent (other_lines (drop (line_length t) t)))
+line_merged o t = rw (first_line_and_others t) (go (dec_le (line_length t) (indent t)))
   where
-    go : Dec (lineLength t ≤ indent t)
-        → merged o (commonIndent (take (lineLength t) t ∷ otherLines (drop (lineLength t) t)))
-        ≡ merged (withLine (indent t) (lineLength t) o) (commonIndent (otherLines (drop (lineLength t) t)))
-    go (yes h) = unfold commonIndent withLine in rw (blank-up-to (lineLength t) t h, le-ltb (indent t) (lineLength t) h)
+    go : Dec (line_length t ≤ indent t)
+        → merged o (common_indent (take (line_length t) t ∷ other_lines (drop (line_length t) t)))
+        ≡ merged (with_line (indent t) (line_length t) o) (common_indent (other_lines (drop (line_length t) t)))
+    go (yes h) = unfold common_indent with_line in rw (blank_up_to (line_length t) t h, le-ltb (indent t) (line_length t) h)
     go (no h) =
-        let k : indent t < lineLength t = omega arith in
-        unfold commonIndent withLine in
-        rw (not-blank-past (lineLength t) t k (first-line-within t), first-line-indent t, lt-ltb (indent t) (lineLength t) k)
-        (merged-lesser (indent t) o (commonIndent (otherLines (drop (lineLength t) t))))
+        let k : indent t < line_length t = omega arith in
+        unfold common_indent with_line in
+        rw (not_blank_past (line_length t) t k (first_line_within t), first_line_indent t, lt-ltb (indent t) (line_length t) k)
+        (merged_lesser (indent t) o (common_indent (other_lines (drop (line_length t) t))))
 
 -- ---- the lines after the first
 
-after-the-first : (s : List ℕ) → lineLength (drop (lineLength s) s) ≡ 0
-unfolding lineLength
-after-the-first [] = refl
-after-the-first (b ∷ s) = go (isLineEnd b) refl (after-the-first s)
+after_the_first : (s : List ℕ) → line_length (drop (line_length s) s) ≡ 0
+unfolding line_length
+after_the_first [] = refl
+after_the_first (b ∷ s) = go (is_line_end b) refl (after_the_first s)
   where
-    go : (x : Bool) → isLineEnd b ≡ x → lineLength (drop (lineLength s) s) ≡ 0
-        → lineLength (drop (if x then 0 else suc (lineLength s)) (b ∷ s)) ≡ 0
-    go true e ih = unfold lineLength in rw e
+    go : (x : Bool) → is_line_end b ≡ x → line_length (drop (line_length s) s) ≡ 0
+        → line_length (drop (if x then 0 else suc (line_length s)) (b ∷ s)) ≡ 0
+    go true e ih = unfold line_length in rw e
     go false e ih = ih
 
-pub first-line-left-out : (s : List ℕ)
-    → commonIndent (lines_of (drop (lineLength s) s)) ≡ commonIndent (otherLines (drop (lineLength s) s))
-first-line-left-out s =
-    let t : List ℕ = drop (lineLength s) s in
-    ap commonIndent (first-line-and-others t) ∙ rw (after-the-first s) (empty-line-does-not-count (otherLines t))
+pub first_line_left_out : (s : List ℕ)
+    → common_indent (lines_of (drop (line_length s) s)) ≡ common_indent (other_lines (drop (line_length s) s))
+first_line_left_out s =
+    let t : List ℕ = drop (line_length s) s in
+    ap common_indent (first_line_and_others t) ∙ rw (after_the_first s) (empty_line_does_not_count (other_lines t))
 
 -- ---- by places
 
 module _ (o : Option ℕ) (s : List ℕ) (i text end : ℕ) (a : text ≡ i + indent (drop i s))
-    (b : end ≡ text + lineLength (drop text s)) where
-  line-there : end - i ≡ lineLength (drop i s)
-  line-there =
+    (b : end ≡ text + line_length (drop text s)) where
+  line_there : end - i ≡ line_length (drop i s)
+  line_there =
       let t : List ℕ = drop i s in
       let d : drop (indent t) t ≡ drop text s = drop-drop (indent t) i s ∙ rw (← a) in
-      let e : lineLength t ≡ indent t + lineLength (drop text s) = rw (← d) (blanks-before-line-end t) in
+      let e : line_length t ≡ indent t + line_length (drop text s) = rw (← d) (blanks_before_line_end t) in
       omega arith
 
-  pub line-ends-before : i < length s → (end ≡ length s → ⊥) → end < length s
-  line-ends-before h k = omega (arith, line-there, first-line-within (drop i s), length-drop i s)
+  pub line_ends_before : i < length s → (end ≡ length s → ⊥) → end < length s
+  line_ends_before h k = omega (arith, line_there, first_line_within (drop i s), length-drop i s)
 
-  line-counted : merged o (commonIndent (lines_of (drop i s)))
-      ≡ merged (withLine (text - i) (end - i) o) (commonIndent (otherLines (drop end s)))
-  line-counted =
+  line_counted : merged o (common_indent (lines_of (drop i s)))
+      ≡ merged (with_line (text - i) (end - i) o) (common_indent (other_lines (drop end s)))
+  line_counted =
       let t : List ℕ = drop i s in
       let p : text - i ≡ indent t = omega arith in
-      let n : i + lineLength t ≡ end = omega (arith, line-there) in
-      let d : drop (lineLength t) t ≡ drop end s = drop-drop (lineLength t) i s ∙ rw n in
-      line-merged o t ∙ rw (d, p, line-there)
+      let n : i + line_length t ≡ end = omega (arith, line_there) in
+      let d : drop (line_length t) t ≡ drop end s = drop-drop (line_length t) i s ∙ rw n in
+      line_merged o t ∙ rw (d, p, line_there)
 
-  pub line-is-counted : end < length s
-      → merged o (commonIndent (lines_of (drop i s)))
-      ≡ merged (withLine (text - i) (end - i) o) (commonIndent (lines_of (drop (end + 1) s)))
-  line-is-counted h =
-      line-counted
-      ∙ rw (others-after s end h, add-one end)
-      (ap (merged (withLine (text - i) (end - i) o))
-      (cr-before commonIndent empty-line-does-not-count (eqb (get_or s end 0) carriageReturn) (drop (suc end) s)))
+  pub line_is_counted : end < length s
+      → merged o (common_indent (lines_of (drop i s)))
+      ≡ merged (with_line (text - i) (end - i) o) (common_indent (lines_of (drop (end + 1) s)))
+  line_is_counted h =
+      line_counted
+      ∙ rw (others_after s end h, add-one end)
+      (ap (merged (with_line (text - i) (end - i) o))
+      (cr_before common_indent empty_line_does_not_count (eqb (get_or s end 0) carriage_return) (drop (suc end) s)))
 
-  pub last-line-is-counted : length s ≤ end → merged o (commonIndent (lines_of (drop i s))) ≡ withLine (text - i) (end - i) o
-  last-line-is-counted h =
-      line-counted ∙ rw (no-others s end h) (unfold commonIndent in merged-none (withLine (text - i) (end - i) o))
+  pub last_line_is_counted : length s ≤ end → merged o (common_indent (lines_of (drop i s))) ≡ with_line (text - i) (end - i) o
+  last_line_is_counted h =
+      line_counted ∙ rw (no_others s end h) (unfold common_indent in merged_none (with_line (text - i) (end - i) o))
 
-pub no-line-counts : (o : Option ℕ) (s : List ℕ) (i : ℕ) → length s ≤ i → merged o (commonIndent (lines_of (drop i s))) ≡ o
-no-line-counts o s i h = rw (drop_of_length-le s h) (unfold rawLinesAfter commonIndent blank in merged-none o)
+pub no_line_counts : (o : Option ℕ) (s : List ℕ) (i : ℕ) → length s ≤ i → merged o (common_indent (lines_of (drop i s))) ≡ o
+no_line_counts o s i h = rw (drop_of_length-le s h) (unfold raw_lines_after common_indent blank in merged_none o)

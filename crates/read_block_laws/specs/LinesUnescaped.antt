@@ -4,148 +4,148 @@ use Rattle.std.proofs.Math.Path.{refl}
 use Rattle.std.proofs.Common.{sym, ap, ◌∙◌, arith, ne_eqb}
 use Rattle.std.proofs.Math.Seq.{drop-nil}
 use Rattle.base.specs.Bools.{clash}
-use Rattle.meaning.specs.Ascii.{if◌then◌else◌, lineFeed, carriageReturn, quote, backslash, tripleQuote}
-use Rattle.meaning.specs.Settings.{isBlank, blank}
-use Rattle.meaning.specs.Block.{onto, indent, commonIndent, threeQuotes, rawLinesAfter}
-use Rattle.literal_laws.specs.BlockText.{blank-is-no-other}
-use Rattle.literal_laws.specs.Quotes.{quotes, three-quotes-counted}
-use Rattle.read_block_laws.specs.Unescaped.{escapes, unescapedAfter, unescaped, byte-unescaped, quotes-unescaped, escape-is}
-use Rattle.read_block_laws.specs.FirstLine.{isLineEnd, lineLength, lines_of, otherLines, first-line-and-others}
+use Rattle.meaning.specs.Ascii.{if◌then◌else◌, line_feed, carriage_return, quote, backslash, triple_quote}
+use Rattle.meaning.specs.Settings.{is_blank, blank}
+use Rattle.meaning.specs.Block.{onto, indent, common_indent, three_quotes, raw_lines_after}
+use Rattle.literal_laws.specs.BlockText.{blank_is_no_other}
+use Rattle.literal_laws.specs.Quotes.{quotes, three_quotes_counted}
+use Rattle.read_block_laws.specs.Unescaped.{escapes, unescaped_after, unescaped, byte_unescaped, quotes_unescaped, escape_is}
+use Rattle.read_block_laws.specs.FirstLine.{is_line_end, line_length, lines_of, other_lines, first_line_and_others}
 
 -- ---- an escape stands in the first line, if it stands at the front
 
-quote-is-no-line-end : (b : ℕ) → isLineEnd b ≡ true → eqb b quote ≡ false
-quote-is-no-line-end b e = ne_eqb b quote (λ z. clash (ap isLineEnd (sym z) ∙ e) (unfold isLineEnd in refl))
+quote_is_no_line_end : (b : ℕ) → is_line_end b ≡ true → eqb b quote ≡ false
+quote_is_no_line_end b e = ne_eqb b quote (λ z. clash (ap is_line_end (sym z) ∙ e) (unfold is_line_end in refl))
 
-quotes-in-first-line : (m : ℕ) (s : List ℕ) → quotes m (take (lineLength s) s) ≡ quotes m s
-unfolding quotes lineLength
-quotes-in-first-line zero s = refl
-quotes-in-first-line (suc m) [] = refl
-quotes-in-first-line (suc m) (b ∷ s) = go (isLineEnd b) refl (quotes-in-first-line m s)
+quotes_in_first_line : (m : ℕ) (s : List ℕ) → quotes m (take (line_length s) s) ≡ quotes m s
+unfolding quotes line_length
+quotes_in_first_line zero s = refl
+quotes_in_first_line (suc m) [] = refl
+quotes_in_first_line (suc m) (b ∷ s) = go (is_line_end b) refl (quotes_in_first_line m s)
   where
-    go : (x : Bool) → isLineEnd b ≡ x → quotes m (take (lineLength s) s) ≡ quotes m s
-        → quotes (suc m) (take (if x then 0 else suc (lineLength s)) (b ∷ s)) ≡ eqb b quote && quotes m s
-    go true e ih = rw (quote-is-no-line-end b e)
+    go : (x : Bool) → is_line_end b ≡ x → quotes m (take (line_length s) s) ≡ quotes m s
+        → quotes (suc m) (take (if x then 0 else suc (line_length s)) (b ∷ s)) ≡ eqb b quote && quotes m s
+    go true e ih = rw (quote_is_no_line_end b e)
     go false e ih = rw ih
 
-pub escape-in-first-line : (b : ℕ) (s : List ℕ) → escapes (b ∷ take (lineLength s) s) ≡ escapes (b ∷ s)
+pub escape_in_first_line : (b : ℕ) (s : List ℕ) → escapes (b ∷ take (line_length s) s) ≡ escapes (b ∷ s)
 unfolding escapes
-escape-in-first-line b s =
-    let l : List ℕ = take (lineLength s) s in
-    rw (three-quotes-counted l, quotes-in-first-line 3 s, three-quotes-counted s)
+escape_in_first_line b s =
+    let l : List ℕ = take (line_length s) s in
+    rw (three_quotes_counted l, quotes_in_first_line 3 s, three_quotes_counted s)
 
 -- ---- the lines of unescaped text
 
-escape-before-lines : (cr : Bool) (s : List ℕ)
-    → rawLinesAfter cr (backslash ∷ (tripleQuote ++ s)) ≡ onto backslash (onto quote (onto quote (onto quote (lines_of s))))
-unfolding rawLinesAfter
-escape-before-lines cr s = refl
+escape_before_lines : (cr : Bool) (s : List ℕ)
+    → raw_lines_after cr (backslash ∷ (triple_quote ++ s)) ≡ onto backslash (onto quote (onto quote (onto quote (lines_of s))))
+unfolding raw_lines_after
+escape_before_lines cr s = refl
 
-quotes-before-lines : (cr : Bool) (s : List ℕ)
-    → rawLinesAfter cr (tripleQuote ++ s) ≡ onto quote (onto quote (onto quote (lines_of s)))
-unfolding rawLinesAfter
-quotes-before-lines cr s = refl
+quotes_before_lines : (cr : Bool) (s : List ℕ)
+    → raw_lines_after cr (triple_quote ++ s) ≡ onto quote (onto quote (onto quote (lines_of s)))
+unfolding raw_lines_after
+quotes_before_lines cr s = refl
 
-quotes-onto : (l : List ℕ) (ls : List (List ℕ))
+quotes_onto : (l : List ℕ) (ls : List (List ℕ))
     → onto quote (onto quote (onto quote (map unescaped (l ∷ ls))))
     ≡ map unescaped (onto backslash (onto quote (onto quote (onto quote (l ∷ ls)))))
-unfolding onto unescapedAfter threeQuotes
-quotes-onto l ls = refl
+unfolding onto unescaped_after three_quotes
+quotes_onto l ls = refl
 
-byte-onto : (b : ℕ) (l : List ℕ) (ls : List (List ℕ)) → escapes (b ∷ l) ≡ false
+byte_onto : (b : ℕ) (l : List ℕ) (ls : List (List ℕ)) → escapes (b ∷ l) ≡ false
     → onto b (map unescaped (l ∷ ls)) ≡ map unescaped (onto b (l ∷ ls))
 unfolding onto
-byte-onto b l ls e = rw (byte-unescaped b l e)
+byte_onto b l ls e = rw (byte_unescaped b l e)
 
-pub lines-unescaped : (cr : Bool) (k : ℕ) (s : List ℕ)
-    → rawLinesAfter cr (unescapedAfter k s) ≡ map unescaped (rawLinesAfter cr (drop k s))
-unfolding unescapedAfter
-lines-unescaped cr k [] = rw (drop-nil {A = ℕ} k) (unfold rawLinesAfter in refl)
-lines-unescaped cr zero (b ∷ s) =
-    go (escapes (b ∷ s)) refl (lines-unescaped false 3 s) (lines-unescaped false 0 s) (lines-unescaped true 0 s)
+pub lines_unescaped : (cr : Bool) (k : ℕ) (s : List ℕ)
+    → raw_lines_after cr (unescaped_after k s) ≡ map unescaped (raw_lines_after cr (drop k s))
+unfolding unescaped_after
+lines_unescaped cr k [] = rw (drop-nil {A = ℕ} k) (unfold raw_lines_after in refl)
+lines_unescaped cr zero (b ∷ s) =
+    go (escapes (b ∷ s)) refl (lines_unescaped false 3 s) (lines_unescaped false 0 s) (lines_unescaped true 0 s)
   where
-    escape : escapes (b ∷ s) ≡ true → lines_of (unescapedAfter 3 s) ≡ map unescaped (lines_of (drop 3 s))
-        → rawLinesAfter cr (tripleQuote ++ unescapedAfter 3 s) ≡ map unescaped (rawLinesAfter cr (b ∷ s))
+    escape : escapes (b ∷ s) ≡ true → lines_of (unescaped_after 3 s) ≡ map unescaped (lines_of (drop 3 s))
+        → raw_lines_after cr (triple_quote ++ unescaped_after 3 s) ≡ map unescaped (raw_lines_after cr (b ∷ s))
     escape e ih =
         let t : List ℕ = drop 3 s in
-        let p = escape-is b s e in
-        let r : rawLinesAfter cr (b ∷ s) ≡ onto backslash (onto quote (onto quote (onto quote (lines_of t)))) =
-        ap (λ (x : ℕ). rawLinesAfter cr (x ∷ s)) p.0
-        ∙ ap (λ (x : List ℕ). rawLinesAfter cr (backslash ∷ x)) p.1
-        ∙ escape-before-lines cr t in
-        quotes-before-lines cr (unescapedAfter 3 s)
-        ∙ rw (ih, r, first-line-and-others t) (quotes-onto (take (lineLength t) t) (otherLines (drop (lineLength t) t)))
+        let p = escape_is b s e in
+        let r : raw_lines_after cr (b ∷ s) ≡ onto backslash (onto quote (onto quote (onto quote (lines_of t)))) =
+        ap (λ (x : ℕ). raw_lines_after cr (x ∷ s)) p.0
+        ∙ ap (λ (x : List ℕ). raw_lines_after cr (backslash ∷ x)) p.1
+        ∙ escape_before_lines cr t in
+        quotes_before_lines cr (unescaped_after 3 s)
+        ∙ rw (ih, r, first_line_and_others t) (quotes_onto (take (line_length t) t) (other_lines (drop (line_length t) t)))
 
     text : escapes (b ∷ s) ≡ false → onto b (map unescaped (lines_of s)) ≡ map unescaped (onto b (lines_of s))
     text e =
-        rw (first-line-and-others s)
-        (byte-onto b (take (lineLength s) s) (otherLines (drop (lineLength s) s)) (escape-in-first-line b s ∙ e))
+        rw (first_line_and_others s)
+        (byte_onto b (take (line_length s) s) (other_lines (drop (line_length s) s)) (escape_in_first_line b s ∙ e))
 
     byte : (cr x y : Bool) → escapes (b ∷ s) ≡ false → lines_of (unescaped s) ≡ map unescaped (lines_of s)
-        → rawLinesAfter true (unescaped s) ≡ map unescaped (rawLinesAfter true s)
+        → raw_lines_after true (unescaped s) ≡ map unescaped (raw_lines_after true s)
         → (if x
         then (if cr then lines_of (unescaped s) else [] ∷ lines_of (unescaped s))
-        else if y then [] ∷ rawLinesAfter true (unescaped s) else onto b (lines_of (unescaped s)))
+        else if y then [] ∷ raw_lines_after true (unescaped s) else onto b (lines_of (unescaped s)))
         ≡ map unescaped
-        (if x then (if cr then lines_of s else [] ∷ lines_of s) else if y then [] ∷ rawLinesAfter true s else onto b (lines_of s))
+        (if x then (if cr then lines_of s else [] ∷ lines_of s) else if y then [] ∷ raw_lines_after true s else onto b (lines_of s))
     byte true true y e i j = i
     byte false true y e i j = rw i
     byte cr false true e i j = rw j
     byte cr false false e i j = rw i (text e)
 
-    go : (x : Bool) → escapes (b ∷ s) ≡ x → lines_of (unescapedAfter 3 s) ≡ map unescaped (lines_of (drop 3 s))
+    go : (x : Bool) → escapes (b ∷ s) ≡ x → lines_of (unescaped_after 3 s) ≡ map unescaped (lines_of (drop 3 s))
         → lines_of (unescaped s) ≡ map unescaped (lines_of s)
-        → rawLinesAfter true (unescaped s) ≡ map unescaped (rawLinesAfter true s)
-        → rawLinesAfter cr (if x then tripleQuote ++ unescapedAfter 3 s else b ∷ unescaped s)
-        ≡ map unescaped (rawLinesAfter cr (b ∷ s))
+        → raw_lines_after true (unescaped s) ≡ map unescaped (raw_lines_after true s)
+        → raw_lines_after cr (if x then triple_quote ++ unescaped_after 3 s else b ∷ unescaped s)
+        ≡ map unescaped (raw_lines_after cr (b ∷ s))
     go true e i j k = escape e i
-    go false e i j k = unfold rawLinesAfter in byte cr (eqb b lineFeed) (eqb b carriageReturn) e j k
-lines-unescaped cr (suc k) (b ∷ s) = lines-unescaped cr k s
+    go false e i j k = unfold raw_lines_after in byte cr (eqb b line_feed) (eqb b carriage_return) e j k
+lines_unescaped cr (suc k) (b ∷ s) = lines_unescaped cr k s
 
 -- ---- a line's blanks
 
-blank-does-not-escape : (b : ℕ) (l : List ℕ) → isBlank b ≡ true → escapes (b ∷ l) ≡ false
+blank_does_not_escape : (b : ℕ) (l : List ℕ) → is_blank b ≡ true → escapes (b ∷ l) ≡ false
 unfolding escapes
-blank-does-not-escape b l e = rw (blank-is-no-other b backslash e (λ z. omega arith) (λ z. omega arith))
+blank_does_not_escape b l e = rw (blank_is_no_other b backslash e (λ z. omega arith) (λ z. omega arith))
 
-escape-is-no-blank : (b : ℕ) (l : List ℕ) → escapes (b ∷ l) ≡ true → isBlank b ≡ false
-escape-is-no-blank b l e = rw (escape-is b l e).0 (unfold isBlank in refl)
+escape_is_no_blank : (b : ℕ) (l : List ℕ) → escapes (b ∷ l) ≡ true → is_blank b ≡ false
+escape_is_no_blank b l e = rw (escape_is b l e).0 (unfold is_blank in refl)
 
-quote-is-no-blank : isBlank quote ≡ false
-unfolding isBlank
-quote-is-no-blank = refl
+quote_is_no_blank : is_blank quote ≡ false
+unfolding is_blank
+quote_is_no_blank = refl
 
-pub blank-unescaped : (l : List ℕ) → blank (unescaped l) ≡ blank l
+pub blank_unescaped : (l : List ℕ) → blank (unescaped l) ≡ blank l
 unfolding blank
-blank-unescaped [] = unfold unescapedAfter in refl
-blank-unescaped (b ∷ l) = go (escapes (b ∷ l)) refl (blank-unescaped l)
+blank_unescaped [] = unfold unescaped_after in refl
+blank_unescaped (b ∷ l) = go (escapes (b ∷ l)) refl (blank_unescaped l)
   where
-    go : (x : Bool) → escapes (b ∷ l) ≡ x → blank (unescaped l) ≡ blank l → blank (unescaped (b ∷ l)) ≡ isBlank b && blank l
-    go true e ih = rw (quotes-unescaped b l e, quote-is-no-blank, escape-is-no-blank b l e)
-    go false e ih = rw (byte-unescaped b l e, ih)
+    go : (x : Bool) → escapes (b ∷ l) ≡ x → blank (unescaped l) ≡ blank l → blank (unescaped (b ∷ l)) ≡ is_blank b && blank l
+    go true e ih = rw (quotes_unescaped b l e, quote_is_no_blank, escape_is_no_blank b l e)
+    go false e ih = rw (byte_unescaped b l e, ih)
 
-pub indent-unescaped : (l : List ℕ) → indent (unescaped l) ≡ indent l
+pub indent_unescaped : (l : List ℕ) → indent (unescaped l) ≡ indent l
 unfolding indent
-indent-unescaped [] = unfold unescapedAfter in refl
-indent-unescaped (b ∷ l) = go (escapes (b ∷ l)) refl (indent-unescaped l)
+indent_unescaped [] = unfold unescaped_after in refl
+indent_unescaped (b ∷ l) = go (escapes (b ∷ l)) refl (indent_unescaped l)
   where
     go : (x : Bool) → escapes (b ∷ l) ≡ x → indent (unescaped l) ≡ indent l
-        → indent (unescaped (b ∷ l)) ≡ (if isBlank b then suc (indent l) else 0)
-    go true e ih = rw (quotes-unescaped b l e, escape-is-no-blank b l e)
-    go false e ih = rw (byte-unescaped b l e, ih)
+        → indent (unescaped (b ∷ l)) ≡ (if is_blank b then suc (indent l) else 0)
+    go true e ih = rw (quotes_unescaped b l e, escape_is_no_blank b l e)
+    go false e ih = rw (byte_unescaped b l e, ih)
 
-pub blanks-dropped-unescaped : (n : ℕ) (l : List ℕ) → n ≤ indent l → drop n (unescaped l) ≡ unescaped (drop n l)
+pub blanks_dropped_unescaped : (n : ℕ) (l : List ℕ) → n ≤ indent l → drop n (unescaped l) ≡ unescaped (drop n l)
 unfolding indent
-blanks-dropped-unescaped zero l h = refl
-blanks-dropped-unescaped (suc n) [] h = absurd (omega arith)
-blanks-dropped-unescaped (suc n) (b ∷ l) h = go (isBlank b) refl h (blanks-dropped-unescaped n l)
+blanks_dropped_unescaped zero l h = refl
+blanks_dropped_unescaped (suc n) [] h = absurd (omega arith)
+blanks_dropped_unescaped (suc n) (b ∷ l) h = go (is_blank b) refl h (blanks_dropped_unescaped n l)
   where
-    go : (x : Bool) → isBlank b ≡ x → suc n ≤ (if x then suc (indent l) else 0)
+    go : (x : Bool) → is_blank b ≡ x → suc n ≤ (if x then suc (indent l) else 0)
         → (n ≤ indent l → drop n (unescaped l) ≡ unescaped (drop n l)) → drop (suc n) (unescaped (b ∷ l)) ≡ unescaped (drop n l)
-    go true e h ih = rw (byte-unescaped b l (blank-does-not-escape b l e)) (ih (omega arith))
+    go true e h ih = rw (byte_unescaped b l (blank_does_not_escape b l e)) (ih (omega arith))
     go false e h ih = absurd (omega arith)
 
-pub common-indent-unescaped : (ls : List (List ℕ)) → commonIndent (map unescaped ls) ≡ commonIndent ls
-unfolding commonIndent
-common-indent-unescaped [] = refl
-common-indent-unescaped (l ∷ ls) = rw (blank-unescaped l, indent-unescaped l, common-indent-unescaped ls)
+pub common_indent_unescaped : (ls : List (List ℕ)) → common_indent (map unescaped ls) ≡ common_indent ls
+unfolding common_indent
+common_indent_unescaped [] = refl
+common_indent_unescaped (l ∷ ls) = rw (blank_unescaped l, indent_unescaped l, common_indent_unescaped ls)

@@ -3,12 +3,12 @@ use Rattle.std.specs.Prelude.{◌≡◌, refl, Bool, true, false, not, ◌&&◌,
 use Rattle.std.proofs.Common.{sym, subst, ◌∙◌, append-nil, arith, drop_of_length-le, drop-drop, ne_eqb}
 use Rattle.std.proofs.Math.Option.{Option, none, some}
 use Rattle.base.specs.Bools.{clash}
-use Rattle.meaning.specs.Ascii.{if◌then◌else◌, lineFeed, carriageReturn, quote, backslash}
+use Rattle.meaning.specs.Ascii.{if◌then◌else◌, line_feed, carriage_return, quote, backslash}
 use Rattle.meaning.specs.Utf8.{encoded}
-use Rattle.meaning.specs.Reading.{character, wrong, escape, quotedFront, prepend, nothingMore, characters}
-use Rattle.literal_laws.specs.Characters.{prepend-nothing, prepend-twice, prepend-some, character-read, closing-read}
+use Rattle.meaning.specs.Reading.{character, wrong, escape, quoted_front, prepend, nothing_more, characters}
+use Rattle.literal_laws.specs.Characters.{prepend_nothing, prepend_twice, prepend_some, character_read, closing_read}
 use Rattle.pen.specs.declared.Pen.{Pen}
-use Rattle.pen.specs.Lists.{drop-one}
+use Rattle.pen.specs.Lists.{drop_one}
 use Rattle.pen.specs.Wrote.{Ready, Wrote, ◌⨾◌, wrote_as, wrote_none}
 use Rattle.read_quoted.specs.declared.Walked.{Walked}
 use Rattle.read_quoted.specs.declared.Walked.TheVariants.{To, Wrong}
@@ -32,22 +32,22 @@ pub record Midway (text : Option (List ℕ)) (d : List ℕ) (p : Pen) (d' : List
   pub wrote : Wrote d p done d' q
   pub says : text ≡ prepend done rest
 
-pub nothing-done : {text : Option (List ℕ)} {d : List ℕ} {p : Pen} → Ready d p → Midway text d p d p text
-nothing-done {text} r = record { done = []; wrote = wrote_none r; says = sym (prepend-nothing text) }
+pub nothing_done : {text : Option (List ℕ)} {d : List ℕ} {p : Pen} → Ready d p → Midway text d p d p text
+nothing_done {text} r = record { done = []; wrote = wrote_none r; says = sym (prepend_nothing text) }
 
-pub some-done : {text : Option (List ℕ)} {d : List ℕ} {p : Pen} {d' : List ℕ} {q : Pen} {t : List ℕ} {rest : Option (List ℕ)}
+pub some_done : {text : Option (List ℕ)} {d : List ℕ} {p : Pen} {d' : List ℕ} {q : Pen} {t : List ℕ} {rest : Option (List ℕ)}
     {d'' : List ℕ} {r : Pen} → Midway text d p d' q (prepend t rest) → Wrote d' q t d'' r → Midway text d p d'' r rest
-some-done {t = t} {rest} m w = record { done = m.done ++ t; wrote = m.wrote ⨾ w; says = m.says ∙ prepend-twice m.done t rest }
+some_done {t = t} {rest} m w = record { done = m.done ++ t; wrote = m.wrote ⨾ w; says = m.says ∙ prepend_twice m.done t rest }
 
-pub left-says : {text : Option (List ℕ)} {d : List ℕ} {p : Pen} {d' : List ℕ} {q : Pen} {rest more : Option (List ℕ)}
+pub left_says : {text : Option (List ℕ)} {d : List ℕ} {p : Pen} {d' : List ℕ} {q : Pen} {rest more : Option (List ℕ)}
     → Midway text d p d' q rest → rest ≡ more → Midway text d p d' q more
-left-says {text} {d} {p} {d'} {q} m e = subst (λ (o : Option (List ℕ)). Midway text d p d' q o) e m
+left_says {text} {d} {p} {d'} {q} m e = subst (λ (o : Option (List ℕ)). Midway text d p d' q o) e m
 
 pub all_done : {text : Option (List ℕ)} {d : List ℕ} {p : Pen} {d' : List ℕ} {q : Pen} → Midway text d p d' q (some [])
     → Value text d p d' q
 all_done m = record {
   value = m.done ++ [];
-  says = m.says ∙ prepend-some m.done [];
+  says = m.says ∙ prepend_some m.done [];
   wrote = wrote_as m.wrote (sym (append-nil m.done));
 }
 
@@ -58,50 +58,50 @@ none_left m = m.says
 
 -- ---- what the text says from a place e on
 
-wrong-read : (b : ℕ) (s : List ℕ) → quotedFront (b ∷ s) ≡ wrong → characters quotedFront 0 (b ∷ s) ≡ none
+wrong_read : (b : ℕ) (s : List ℕ) → quoted_front (b ∷ s) ≡ wrong → characters quoted_front 0 (b ∷ s) ≡ none
 unfolding characters
-wrong-read b s h = rw h
+wrong_read b s h = rw h
 
-line-end-is-wrong : (b : ℕ) (s : List ℕ) → (b ≡ quote → ⊥) → (b ≡ backslash → ⊥) → plain b ≡ false
-    → quotedFront (b ∷ s) ≡ wrong
-unfolding plain quotedFront
-line-end-is-wrong b s q k p =
+line_end_is_wrong : (b : ℕ) (s : List ℕ) → (b ≡ quote → ⊥) → (b ≡ backslash → ⊥) → plain b ≡ false
+    → quoted_front (b ∷ s) ≡ wrong
+unfolding plain quoted_front
+line_end_is_wrong b s q k p =
     let n = ne_eqb b quote q in
     let m = ne_eqb b backslash k in
-    rw (n, m) (go (eqb b lineFeed) (eqb b carriageReturn) (rw (n, m) at p))
+    rw (n, m) (go (eqb b line_feed) (eqb b carriage_return) (rw (n, m) at p))
   where
     go : (l r : Bool) → not l && not r ≡ false → (if l || r then wrong else character (b ∷ []) 0) ≡ wrong
     go true r h = refl
     go false true h = refl
     go false false h = clash refl h
 
-pub not-closed : (s : List ℕ) (e : ℕ) → length s ≤ e → characters quotedFront 0 (drop e s) ≡ none
+pub not_closed : (s : List ℕ) (e : ℕ) → length s ≤ e → characters quoted_front 0 (drop e s) ≡ none
 unfolding characters
-not-closed s e h = rw (drop_of_length-le s h)
+not_closed s e h = rw (drop_of_length-le s h)
 
 module _ (s : List ℕ) (e : ℕ) (h : e < length s) where
-  at-quote : get_or s e 0 ≡ quote → characters quotedFront 0 (drop e s) ≡ nothingMore (drop (e + 1) s)
-  at-quote q = rw (drop-one s e h, q) (closing-read quotedFront 0 quote (drop (e + 1) s) (unfold quotedFront in refl))
+  at_quote : get_or s e 0 ≡ quote → characters quoted_front 0 (drop e s) ≡ nothing_more (drop (e + 1) s)
+  at_quote q = rw (drop_one s e h, q) (closing_read quoted_front 0 quote (drop (e + 1) s) (unfold quoted_front in refl))
 
-  pub closed-at-the-end : get_or s e 0 ≡ quote → e + 1 ≡ length s → characters quotedFront 0 (drop e s) ≡ some []
-  closed-at-the-end q l = at-quote q ∙ rw (drop_of_length-le s {i = e + 1} (omega arith)) (unfold nothingMore in refl)
+  pub closed_at_the_end : get_or s e 0 ≡ quote → e + 1 ≡ length s → characters quoted_front 0 (drop e s) ≡ some []
+  closed_at_the_end q l = at_quote q ∙ rw (drop_of_length-le s {i = e + 1} (omega arith)) (unfold nothing_more in refl)
 
-  pub goes-on-when-closed : get_or s e 0 ≡ quote → (e + 1 ≡ length s → ⊥) → characters quotedFront 0 (drop e s) ≡ none
-  goes-on-when-closed q l = at-quote q ∙ rw (drop-one s (e + 1) (omega arith)) (unfold nothingMore in refl)
+  pub goes_on_when_closed : get_or s e 0 ≡ quote → (e + 1 ≡ length s → ⊥) → characters quoted_front 0 (drop e s) ≡ none
+  goes_on_when_closed q l = at_quote q ∙ rw (drop_one s (e + 1) (omega arith)) (unfold nothing_more in refl)
 
-  at-backslash : get_or s e 0 ≡ backslash → quotedFront (get_or s e 0 ∷ drop (e + 1) s) ≡ escape (drop (e + 1) s)
-  at-backslash q = rw q (unfold quotedFront in refl)
+  at_backslash : get_or s e 0 ≡ backslash → quoted_front (get_or s e 0 ∷ drop (e + 1) s) ≡ escape (drop (e + 1) s)
+  at_backslash q = rw q (unfold quoted_front in refl)
 
-  pub wrong-escape : get_or s e 0 ≡ backslash → escape (drop (e + 1) s) ≡ wrong → characters quotedFront 0 (drop e s) ≡ none
-  wrong-escape q w = rw (drop-one s e h) (wrong-read (get_or s e 0) (drop (e + 1) s) (at-backslash q ∙ w))
+  pub wrong_escape : get_or s e 0 ≡ backslash → escape (drop (e + 1) s) ≡ wrong → characters quoted_front 0 (drop e s) ≡ none
+  wrong_escape q w = rw (drop_one s e h) (wrong_read (get_or s e 0) (drop (e + 1) s) (at_backslash q ∙ w))
 
-  pub escape-read : (n k : ℕ) → get_or s e 0 ≡ backslash → Stands (drop (e + 1) s) (escape (drop (e + 1) s)) n k
-      → characters quotedFront 0 (drop e s) ≡ prepend (encoded n) (characters quotedFront 0 (drop (e + 1 + k) s))
-  escape-read n k q w =
-      rw (drop-one s e h, ← drop-drop k (e + 1) s)
-      (character-read quotedFront (encoded n) k (get_or s e 0) (drop (e + 1) s) (at-backslash q ∙ w.means))
+  pub escape_read : (n k : ℕ) → get_or s e 0 ≡ backslash → Stands (drop (e + 1) s) (escape (drop (e + 1) s)) n k
+      → characters quoted_front 0 (drop e s) ≡ prepend (encoded n) (characters quoted_front 0 (drop (e + 1 + k) s))
+  escape_read n k q w =
+      rw (drop_one s e h, ← drop-drop k (e + 1) s)
+      (character_read quoted_front (encoded n) k (get_or s e 0) (drop (e + 1) s) (at_backslash q ∙ w.means))
 
-  pub line-end : (get_or s e 0 ≡ quote → ⊥) → (get_or s e 0 ≡ backslash → ⊥) → plain (get_or s e 0) ≡ false
-      → characters quotedFront 0 (drop e s) ≡ none
-  line-end q k p =
-      rw (drop-one s e h) (wrong-read (get_or s e 0) (drop (e + 1) s) (line-end-is-wrong (get_or s e 0) (drop (e + 1) s) q k p))
+  pub line_end : (get_or s e 0 ≡ quote → ⊥) → (get_or s e 0 ≡ backslash → ⊥) → plain (get_or s e 0) ≡ false
+      → characters quoted_front 0 (drop e s) ≡ none
+  line_end q k p =
+      rw (drop_one s e h) (wrong_read (get_or s e 0) (drop (e + 1) s) (line_end_is_wrong (get_or s e 0) (drop (e + 1) s) q k p))

@@ -1,13 +1,13 @@
 // Reading one quoted string literal: bytes that stand for themselves are copied a run at a time, and each escape is taken apart.
 ghost use Rattle.std.specs.Prelude.{◌≡◌, ◌+◌, ◌<◌, ◌≤◌, length, drop};
 ghost use Rattle.meaning.specs.Utf8.{encoded};
-ghost use Rattle.meaning.specs.Reading.{hexValue, unicodeEscape, letterByte, escape as escapeOf, quotedFront, characters, asQuoted};
-ghost use Rattle.meaning.specs.Answers.{readingAnswer};
+ghost use Rattle.meaning.specs.Reading.{hex_value, unicode_escape, letter_byte, escape as escape_of, quoted_front, characters, as_quoted};
+ghost use Rattle.meaning.specs.Answers.{reading_answer};
 ghost use Rattle.meaning.specs.Entries.{read_of};
 ghost use Rattle.pen.specs.Wrote.{Wrote};
 ghost use Rattle.quoted.specs.Classes.{classes};
 ghost use Rattle.read_quoted.specs.Escapes.{EscapedIs};
-ghost use Rattle.read_quoted.specs.Runs.{plain, plainRun};
+ghost use Rattle.read_quoted.specs.Runs.{plain, plain_run};
 ghost use Rattle.read_quoted.specs.Walks.{WalkedIs};
 
 use meaning::{Form, Reading, Refusal};
@@ -29,7 +29,7 @@ enum Walked {
 
 // The value of a hex digit of either case, 16 for any other byte.
 fn hex_value(b: u8) -> u32
-    ensures { result ≡ hexValue b }
+    ensures { result ≡ hex_value b }
 {
     match b {
         0x30..=0x39 => (b - 0x30) as u32,
@@ -42,7 +42,7 @@ fn hex_value(b: u8) -> u32
 // What `\u` stands for: its `u` is at `at`, and four hex digits that write no surrogate have to follow.
 fn unicode_escape(text: &[u8], at: usize) -> Escaped
     requires { at < length text.now }
-    ensures { EscapedIs (drop at text.now) (unicodeEscape (drop (at + 1) text.now)) result }
+    ensures { EscapedIs (drop at text.now) (unicode_escape (drop (at + 1) text.now)) result }
 {
     if text.len() - at < 5 {
         return Escaped::Wrong;
@@ -75,7 +75,7 @@ fn unicode_escape(text: &[u8], at: usize) -> Escaped
 
 // The byte that the letter after a backslash stands for, 0 where it is none of them.
 fn letter_byte(c: u8) -> u32
-    ensures { result ≡ letterByte c }
+    ensures { result ≡ letter_byte c }
 {
     match c {
         b'"' => 0x22,
@@ -92,7 +92,7 @@ fn letter_byte(c: u8) -> u32
 
 // What an escape stands for, from the byte after its backslash.
 fn escape(text: &[u8], at: usize) -> Escaped
-    ensures { EscapedIs (drop at text.now) (escapeOf (drop at text.now)) result }
+    ensures { EscapedIs (drop at text.now) (escape_of (drop at text.now)) result }
 {
     if text.len() <= at {
         return Escaped::Wrong;
@@ -144,7 +144,7 @@ fn is_plain(b: u8) -> bool
 // The place of the next byte, at or after `from`, that does not stand for itself, or the end.
 fn run_end(table: &[u8; 256], text: &[u8], from: usize) -> usize
     requires { table.now ≡ classes }
-    ensures { result ≡ from + plainRun (drop from text.now) }
+    ensures { result ≡ from + plain_run (drop from text.now) }
 {
     let mut e = quoted::next_escape(table, text, from);
     while e < text.len() {
@@ -159,7 +159,7 @@ fn run_end(table: &[u8; 256], text: &[u8], from: usize) -> usize
 // Writes the value of the text behind its opening quote, up to a closing quote that has to end the text.
 fn walk(table: &[u8; 256], text: &[u8], out: &mut [u8], pen: Pen) -> Walked
     requires { table.now ≡ classes }
-    ensures { WalkedIs (characters quotedFront 0 (drop 1 text.now)) out.old pen out.new result }
+    ensures { WalkedIs (characters quoted_front 0 (drop 1 text.now)) out.old pen out.new result }
 {
     let mut i = 1;
     let mut p = pen;
@@ -193,8 +193,8 @@ fn walk(table: &[u8; 256], text: &[u8], out: &mut [u8], pen: Pen) -> Walked
 // that a refusal changes no byte.
 pub fn read_quoted(table: &[u8; 256], text: &[u8], out: &mut [u8]) -> Reading
     requires { table.now ≡ classes }
-    ensures { ((readingAnswer result).0, (readingAnswer result).1, out.new) ≡
-        read_of (asQuoted (characters quotedFront 0 (drop 1 text.now))) out.old }
+    ensures { ((reading_answer result).0, (reading_answer result).1, out.new) ≡
+        read_of (as_quoted (characters quoted_front 0 (drop 1 text.now))) out.old }
 {
     let measured = walk(table, text, &mut out[..0], pen::start());
     let Walked::To(end) = measured else {

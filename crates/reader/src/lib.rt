@@ -1,11 +1,11 @@
 // One string literal, read into lent memory.
 ghost use Rattle.std.specs.Prelude.{◌≡◌};
-ghost use Rattle.meaning.specs.Answers.{readingAnswer};
-ghost use Rattle.meaning.specs.Entries.{readLiteral};
+ghost use Rattle.meaning.specs.Answers.{reading_answer};
+ghost use Rattle.meaning.specs.Entries.{read_literal};
 
 // The value of the one literal that `text` is, into `out`: its form and length, or why nothing was written.
 pub fn read_literal(text: &[u8], out: &mut [u8]) -> meaning::Reading
-    ensures { ((readingAnswer result).0, (readingAnswer result).1, out.new) ≡ readLiteral text.now out.old }
+    ensures { ((reading_answer result).0, (reading_answer result).1, out.new) ≡ read_literal text.now out.old }
 {
     if !text::is_utf8(text) {
         return meaning::Reading::Refused(meaning::Refusal::Literal);

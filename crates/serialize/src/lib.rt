@@ -2,15 +2,15 @@
 ghost use Rattle.std.specs.Prelude.{◌≡◌, ◌∷◌, [], ◌++◌, ℕ, ◌+◌, ◌≤◌, ◌<◌};
 ghost use Rattle.meaning.specs.Ascii.{ascii};
 ghost use Rattle.meaning.specs.Kind;
-ghost use Rattle.meaning.specs.Settings.{onSingleLine};
-ghost use Rattle.meaning.specs.Table.{kind_at, treeAt};
+ghost use Rattle.meaning.specs.Settings.{on_single_line};
+ghost use Rattle.meaning.specs.Table.{kind_at, tree_at};
 ghost use Rattle.meaning.specs.Children.{a, rest, run, past};
-ghost use Rattle.meaning.specs.Rules.{commaSeparated, parenthesized, singleLine, singleLineUnlessMarked, argumentDefinitions, defaultValue, optionalBraces, ruleOf};
-ghost use Rattle.meaning.specs.Layout.{childIn, firstSaid, each, inBraces, inCommas, nodeText};
+ghost use Rattle.meaning.specs.Rules.{comma_separated, parenthesized, single_line, single_line_unless_marked, argument_definitions, default_value, optional_braces, rule_of};
+ghost use Rattle.meaning.specs.Layout.{child_in, first_said, each, in_braces, in_commas, node_text};
 ghost use Rattle.pen.specs.Wrote.{Wrote};
 ghost use Rattle.layout.specs.Classes.{meant};
 ghost use Rattle.layout.specs.Kids.{kids};
-ghost use Rattle.layout.specs.Written.{under, gapText};
+ghost use Rattle.layout.specs.Written.{under, gap_text};
 ghost use Rattle.layout.specs.Jobs.{Job, Jobs};
 ghost use Rattle.layout.specs.Did.{Walked, Did};
 ghost use Rattle.serialize.specs.Parts.{Parts};
@@ -45,7 +45,7 @@ pub fn one(
     at: Walk,
 ) -> Walk
     requires { Jobs table.now words.now pool.now at.node.0 to.0 depth state.level }
-    ensures { Walked words.now pool.now to.0 (firstSaid (under state prefix.now) (kids words.now pool.now at.node.0 to.0)) (rest childIn (kids words.now pool.now at.node.0 to.0)) out.old at out.new result }
+    ensures { Walked words.now pool.now to.0 (first_said (under state prefix.now) (kids words.now pool.now at.node.0 to.0)) (rest child_in (kids words.now pool.now at.node.0 to.0)) out.old at out.new result }
 {
     let node = at.node;
     if to.0 <= node.0 {
@@ -77,7 +77,7 @@ pub fn each(
     at: Walk,
 ) -> Walk
     requires { Jobs table.now words.now pool.now at.node.0 to.0 depth state.level }
-    ensures { Walked words.now pool.now to.0 (each (gapText gap (under state prefix.now)) (under state prefix.now) (run childIn (meant class) (kids words.now pool.now at.node.0 to.0))) (past childIn (meant class) (kids words.now pool.now at.node.0 to.0)) out.old at out.new result }
+    ensures { Walked words.now pool.now to.0 (each (gap_text gap (under state prefix.now)) (under state prefix.now) (run child_in (meant class) (kids words.now pool.now at.node.0 to.0))) (past child_in (meant class) (kids words.now pool.now at.node.0 to.0)) out.old at out.new result }
 {
     let mut w = at;
     while layout::is_next(words, class, w.node, to) {
@@ -104,7 +104,7 @@ fn commas(
     at: Walk,
 ) -> Walk
     requires { Jobs table.now words.now pool.now at.node.0 to.0 depth (state.level + 1) }
-    ensures { Walked words.now pool.now to.0 (inCommas (under state prefix.now) left.now right.now (run childIn (meant class) (kids words.now pool.now at.node.0 to.0))) (past childIn (meant class) (kids words.now pool.now at.node.0 to.0)) out.old at out.new result }
+    ensures { Walked words.now pool.now to.0 (in_commas (under state prefix.now) left.now right.now (run child_in (meant class) (kids words.now pool.now at.node.0 to.0))) (past child_in (meant class) (kids words.now pool.now at.node.0 to.0)) out.old at out.new result }
 {
     let a = layout::token(out, at, left);
     if layout::is_next(words, class, a.node, to) {
@@ -146,7 +146,7 @@ pub fn curly(
     at: Walk,
 ) -> Walk
     requires { Jobs table.now words.now pool.now at.node.0 to.0 depth (state.level + 1) }
-    ensures { Walked words.now pool.now to.0 (inBraces (under state prefix.now) (run childIn (meant class) (kids words.now pool.now at.node.0 to.0))) (past childIn (meant class) (kids words.now pool.now at.node.0 to.0)) out.old at out.new result }
+    ensures { Walked words.now pool.now to.0 (in_braces (under state prefix.now) (run child_in (meant class) (kids words.now pool.now at.node.0 to.0))) (past child_in (meant class) (kids words.now pool.now at.node.0 to.0)) out.old at out.new result }
 {
     let a = layout::token(out, at, b"{");
     if layout::is_next(words, class, a.node, to) {
@@ -184,7 +184,7 @@ pub fn opt_braces(
     at: Walk,
 ) -> Walk
     requires { Jobs table.now words.now pool.now at.node.0 to.0 depth (state.level + 1) }
-    ensures { (n : ℕ) → Did words.now pool.now (under state prefix.now) n to.0 (optionalBraces (meant class)) out.old at out.new result }
+    ensures { (n : ℕ) → Did words.now pool.now (under state prefix.now) n to.0 (optional_braces (meant class)) out.old at out.new result }
 {
     if layout::is_next(words, class, at.node, to) {
         let a = layout::token(out, at, b" ");
@@ -208,7 +208,7 @@ pub fn arguments(
     at: Walk,
 ) -> Walk
     requires { Jobs table.now words.now pool.now at.node.0 to.0 depth (state.level + 1) }
-    ensures { (n : ℕ) → Did words.now pool.now (under state prefix.now) n to.0 (parenthesized singleLine kind) out.old at out.new result }
+    ensures { (n : ℕ) → Did words.now pool.now (under state prefix.now) n to.0 (parenthesized single_line kind) out.old at out.new result }
 {
     if layout::is_next(words, Class::Kind(kind), at.node, to) {
         return commas(
@@ -243,7 +243,7 @@ pub fn directives(
     at: Walk,
 ) -> Walk
     requires { Jobs table.now words.now pool.now at.node.0 to.0 depth state.level }
-    ensures { Walked words.now pool.now to.0 (each (ascii " ") (under state prefix.now) (run childIn (a 19) (kids words.now pool.now at.node.0 to.0))) (past childIn (a 19) (kids words.now pool.now at.node.0 to.0)) out.old at out.new result }
+    ensures { Walked words.now pool.now to.0 (each (ascii " ") (under state prefix.now) (run child_in (a 19) (kids words.now pool.now at.node.0 to.0))) (past child_in (a 19) (kids words.now pool.now at.node.0 to.0)) out.old at out.new result }
 {
     let class = Class::Kind(DIRECTIVE);
     if layout::is_next(words, class, at.node, to) {
@@ -278,7 +278,7 @@ fn signature(
     at: Walk,
 ) -> Walk
     requires { Jobs table.now words.now pool.now at.node.0 to.0 depth (state.level + 1) }
-    ensures { (n : ℕ) → Did words.now pool.now (under state prefix.now) n to.0 (commaSeparated singleLineUnlessMarked (ascii "(") (ascii ")") (a 22) ∷ []) out.old at out.new result }
+    ensures { (n : ℕ) → Did words.now pool.now (under state prefix.now) n to.0 (comma_separated single_line_unless_marked (ascii "(") (ascii ")") (a 22) ∷ []) out.old at out.new result }
 {
     let marked = layout::any_marked(words, pool, at.node, to);
     let lines = layout::single_line_unless(marked, state);
@@ -302,7 +302,7 @@ pub fn arguments_def(
     at: Walk,
 ) -> Walk
     requires { Jobs table.now words.now pool.now at.node.0 to.0 depth (state.level + 1) }
-    ensures { (n : ℕ) → Did words.now pool.now (under state prefix.now) n to.0 argumentDefinitions out.old at out.new result }
+    ensures { (n : ℕ) → Did words.now pool.now (under state prefix.now) n to.0 argument_definitions out.old at out.new result }
 {
     if layout::is_next(words, Class::Kind(INPUT_VALUE_DEFINITION), at.node, to) {
         return signature(words, pool, table, to, depth, prefix, state, out, at);
@@ -326,7 +326,7 @@ fn default(
     at: Walk,
 ) -> Walk
     requires { Jobs table.now words.now pool.now at.node.0 to.0 depth state.level }
-    ensures { (n : ℕ) → Did words.now pool.now (under state prefix.now) n to.0 defaultValue out.old at out.new result }
+    ensures { (n : ℕ) → Did words.now pool.now (under state prefix.now) n to.0 default_value out.old at out.new result }
 {
     if layout::is_next(words, Class::Value, at.node, to) {
         let a = layout::token(out, at, b" = ");
@@ -349,7 +349,7 @@ fn directive(
     at: Walk,
 ) -> Walk
     requires { Parts table.now words.now pool.now node.0 at.node.0 to.0 depth state.level }
-    ensures { Did words.now pool.now (under state prefix.now) node.0 to.0 (ruleOf 19) out.old at out.new result }
+    ensures { Did words.now pool.now (under state prefix.now) node.0 to.0 (rule_of 19) out.old at out.new result }
 {
     let a = layout::token(out, at, b"@");
     let b = layout::name(words, pool, node, out, a);
@@ -373,7 +373,7 @@ fn argument(
     at: Walk,
 ) -> Walk
     requires { Parts table.now words.now pool.now node.0 at.node.0 to.0 depth state.level }
-    ensures { Did words.now pool.now (under state prefix.now) node.0 to.0 (ruleOf 20) out.old at out.new result }
+    ensures { Did words.now pool.now (under state prefix.now) node.0 to.0 (rule_of 20) out.old at out.new result }
 {
     let a = layout::name(words, pool, node, out, at);
     let b = layout::token(out, a, b": ");
@@ -394,7 +394,7 @@ fn variable(
     at: Walk,
 ) -> Walk
     requires { Parts table.now words.now pool.now node.0 at.node.0 to.0 depth state.level }
-    ensures { Did words.now pool.now (under state prefix.now) node.0 to.0 (ruleOf 21) out.old at out.new result }
+    ensures { Did words.now pool.now (under state prefix.now) node.0 to.0 (rule_of 21) out.old at out.new result }
 {
     let a = layout::token(out, at, b"$");
     let b = layout::name(words, pool, node, out, a);
@@ -419,7 +419,7 @@ fn input(
     at: Walk,
 ) -> Walk
     requires { Parts table.now words.now pool.now node.0 at.node.0 to.0 depth state.level }
-    ensures { Did words.now pool.now (under state prefix.now) node.0 to.0 (ruleOf 22) out.old at out.new result }
+    ensures { Did words.now pool.now (under state prefix.now) node.0 to.0 (rule_of 22) out.old at out.new result }
 {
     let a = leaves::serialize_description(words, pool, table, to, prefix, state, out, at);
     let b = layout::name(words, pool, node, out, a);
@@ -444,7 +444,7 @@ fn field_def(
     at: Walk,
 ) -> Walk
     requires { Parts table.now words.now pool.now node.0 at.node.0 to.0 depth state.level }
-    ensures { Did words.now pool.now (under state prefix.now) node.0 to.0 (ruleOf 23) out.old at out.new result }
+    ensures { Did words.now pool.now (under state prefix.now) node.0 to.0 (rule_of 23) out.old at out.new result }
 {
     let a = leaves::serialize_description(words, pool, table, to, prefix, state, out, at);
     let b = layout::name(words, pool, node, out, a);
@@ -468,7 +468,7 @@ fn enum_value(
     at: Walk,
 ) -> Walk
     requires { Parts table.now words.now pool.now node.0 at.node.0 to.0 depth state.level }
-    ensures { Did words.now pool.now (under state prefix.now) node.0 to.0 (ruleOf 24) out.old at out.new result }
+    ensures { Did words.now pool.now (under state prefix.now) node.0 to.0 (rule_of 24) out.old at out.new result }
 {
     let a = leaves::serialize_description(words, pool, table, to, prefix, state, out, at);
     let b = layout::name(words, pool, node, out, a);
@@ -489,7 +489,7 @@ fn field(
     at: Walk,
 ) -> Walk
     requires { Parts table.now words.now pool.now node.0 at.node.0 to.0 depth state.level }
-    ensures { Did words.now pool.now (under state prefix.now) node.0 to.0 (ruleOf 29) out.old at out.new result }
+    ensures { Did words.now pool.now (under state prefix.now) node.0 to.0 (rule_of 29) out.old at out.new result }
 {
     let a = leaves::alias(words, pool, to, out, at);
     let b = layout::name(words, pool, node, out, a);
@@ -525,7 +525,7 @@ fn spread(
     at: Walk,
 ) -> Walk
     requires { Parts table.now words.now pool.now node.0 at.node.0 to.0 depth state.level }
-    ensures { Did words.now pool.now (under state prefix.now) node.0 to.0 (ruleOf 31) out.old at out.new result }
+    ensures { Did words.now pool.now (under state prefix.now) node.0 to.0 (rule_of 31) out.old at out.new result }
 {
     let a = layout::token(out, at, b"...");
     let b = layout::name(words, pool, node, out, a);
@@ -546,7 +546,7 @@ fn inline(
     at: Walk,
 ) -> Walk
     requires { Parts table.now words.now pool.now node.0 at.node.0 to.0 depth state.level }
-    ensures { Did words.now pool.now (under state prefix.now) node.0 to.0 (ruleOf 32) out.old at out.new result }
+    ensures { Did words.now pool.now (under state prefix.now) node.0 to.0 (rule_of 32) out.old at out.new result }
 {
     let a = layout::token(out, at, b"...");
     let b = leaves::if_named(words, pool, node, b" on ", out, a);
@@ -579,7 +579,7 @@ fn list(
     at: Walk,
 ) -> Walk
     requires { Jobs table.now words.now pool.now at.node.0 to.0 depth (state.level + 1) }
-    ensures { (n : ℕ) → Did words.now pool.now (under state prefix.now) n to.0 (ruleOf 42) out.old at out.new result }
+    ensures { (n : ℕ) → Did words.now pool.now (under state prefix.now) n to.0 (rule_of 42) out.old at out.new result }
 {
     commas(
         words,
@@ -610,7 +610,7 @@ fn object(
     at: Walk,
 ) -> Walk
     requires { Jobs table.now words.now pool.now at.node.0 to.0 depth (state.level + 1) }
-    ensures { (n : ℕ) → Did words.now pool.now (under state prefix.now) n to.0 (ruleOf 43) out.old at out.new result }
+    ensures { (n : ℕ) → Did words.now pool.now (under state prefix.now) n to.0 (rule_of 43) out.old at out.new result }
 {
     commas(
         words,
@@ -643,7 +643,7 @@ fn value(
     at: Walk,
 ) -> Walk
     requires { Parts table.now words.now pool.now node.0 at.node.0 to.0 depth state.level × (35 ≤ kind) × (kind ≤ 43) }
-    ensures { Did words.now pool.now (under state prefix.now) node.0 to.0 (ruleOf kind) out.old at out.new result }
+    ensures { Did words.now pool.now (under state prefix.now) node.0 to.0 (rule_of kind) out.old at out.new result }
 {
     match kind {
         35 => layout::token(out, at, b"null"),
@@ -672,7 +672,7 @@ pub fn serialize_impl(
     pen: Pen,
 ) -> Pen
     requires { Job table.now words.now pool.now node.0 depth state.level × (17 < kind_at words.now node.0) }
-    ensures { Wrote out.old pen (nodeText (treeAt words.now pool.now node.0) (under state prefix.now)) out.new result }
+    ensures { Wrote out.old pen (node_text (tree_at words.now pool.now node.0) (under state prefix.now)) out.new result }
 {
     let kind = table::kind(words, node);
     let to = NodeNumber(table::end(words, node));

@@ -1,6 +1,6 @@
 // Document 01's refusal 1, for a document or one literal.
 ghost use Rattle.std.specs.Prelude.{◌≡◌};
-ghost use Rattle.meaning.specs.Settings.{settings, blank, settingsFault};
+ghost use Rattle.meaning.specs.Settings.{settings, blank, settings_fault};
 
 const LONGEST_PREFIX: usize = 16;
 
@@ -20,7 +20,7 @@ fn all_blank(prefix: &[u8]) -> bool
 
 // A prefix that is too long or not blank, or a level over `levels`.
 pub fn settings_fault(levels: usize, breaks: bool, prefix: &[u8], level: usize) -> bool
-    ensures { result ≡ settingsFault levels (settings breaks prefix.now level) }
+    ensures { result ≡ settings_fault levels (settings breaks prefix.now level) }
 {
     if LONGEST_PREFIX < prefix.len() {
         return true;

@@ -11,7 +11,7 @@ pub record InTable (w : List ℕ) (i : ℕ) : Type 0 where
 -- and its text lies in the pool
 pub record TextInPool (w p : List ℕ) (i : ℕ) : Type 0 where
   pub node : InTable w i
-  pub inPool : start_at w i + length_at w i ≤ length p
+  pub in_pool : start_at w i + length_at w i ≤ length p
 
 -- r is the word, and small
 pub record Small (r word : ℕ) : Type 0 where
@@ -22,25 +22,25 @@ pub word_read : (field : ℕ) (w : List ℕ) (i r : ℕ) → r ≡ get_or w (i *
 unfolding word
 word_read field w i r e h = record { is = e; bound = h }
 
-pub small-as : {r a b : ℕ} → Small r a → a ≡ b → Small r b
-small-as s e = record { is = s.is ∙ e; bound = s.bound }
+pub small_as : {r a b : ℕ} → Small r a → a ≡ b → Small r b
+small_as s e = record { is = s.is ∙ e; bound = s.bound }
 
-pub kind-word : (w : List ℕ) (i : ℕ) → word 0 w i ≡ kind_at w i
+pub kind_word : (w : List ℕ) (i : ℕ) → word 0 w i ≡ kind_at w i
 unfolding kind_at
-kind-word w i = refl
+kind_word w i = refl
 
-pub variant-word : (w : List ℕ) (i : ℕ) → word 1 w i ≡ variant_at w i
+pub variant_word : (w : List ℕ) (i : ℕ) → word 1 w i ≡ variant_at w i
 unfolding variant_at
-variant-word w i = refl
+variant_word w i = refl
 
 pub start_word : (w : List ℕ) (i : ℕ) → word 2 w i ≡ start_at w i
 unfolding start_at
 start_word w i = refl
 
-pub length-word : (w : List ℕ) (i : ℕ) → word 3 w i ≡ length_at w i
+pub length_word : (w : List ℕ) (i : ℕ) → word 3 w i ≡ length_at w i
 unfolding length_at
-length-word w i = refl
+length_word w i = refl
 
-pub end-word : (w : List ℕ) (i : ℕ) → word 4 w i ≡ end_at w i
+pub end_word : (w : List ℕ) (i : ℕ) → word 4 w i ≡ end_at w i
 unfolding end_at
-end-word w i = refl
+end_word w i = refl

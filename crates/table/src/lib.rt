@@ -1,6 +1,6 @@
 // The words of a node.
 ghost use Rattle.std.specs.Prelude.{◌≡◌, ◌<◌};
-ghost use Rattle.meaning.specs.Table.{word, kind_at, variant_at, start_at, length_at, end_at, textAt};
+ghost use Rattle.meaning.specs.Table.{word, kind_at, variant_at, start_at, length_at, end_at, text_at};
 ghost use Rattle.table.specs.Words.{InTable, TextInPool, Small};
 
 use meaning::NodeNumber;
@@ -53,7 +53,7 @@ pub fn end(words: &[u32], i: NodeNumber) -> usize
 // The bytes of the pool that a node names.
 pub fn text<'a>(words: &[u32], pool: &'a [u8], i: NodeNumber) -> &'a [u8]
     requires { TextInPool words.now pool.now i.0 }
-    ensures { result.now ≡ textAt words.now pool.now i.0 }
+    ensures { result.now ≡ text_at words.now pool.now i.0 }
 {
     let from = start(words, i);
     let to = from + length(words, i);

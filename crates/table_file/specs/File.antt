@@ -12,16 +12,16 @@ abbrev pub magic : List ℕ
 magic = ascii "DVTABLE1"
 
 -- a number of 32 bits as four bytes
-unfoldable pub numberBytes : ℕ → List ℕ
-numberBytes n = n % 256 ∷ n / 256 % 256 ∷ n / 256 / 256 % 256 ∷ n / 256 / 256 / 256 % 256 ∷ []
+unfoldable pub number_bytes : ℕ → List ℕ
+number_bytes n = n % 256 ∷ n / 256 % 256 ∷ n / 256 / 256 % 256 ∷ n / 256 / 256 / 256 % 256 ∷ []
 
-unfoldable pub wordsBytes : List ℕ → List ℕ
-wordsBytes [] = []
-wordsBytes (w ∷ words) = numberBytes w ++ wordsBytes words
+unfoldable pub words_bytes : List ℕ → List ℕ
+words_bytes [] = []
+words_bytes (w ∷ words) = number_bytes w ++ words_bytes words
 
 -- the file of a table
-unfoldable pub tableFile : List ℕ → List ℕ → List ℕ
-tableFile words pool = magic ++ (numberBytes (length words) ++ (numberBytes (length pool) ++ (wordsBytes words ++ pool)))
+unfoldable pub table_file : List ℕ → List ℕ → List ℕ
+table_file words pool = magic ++ (number_bytes (length words) ++ (number_bytes (length pool) ++ (words_bytes words ++ pool)))
 
 -- Reading, of any bytes: `ReadsBack.antt` has it that the file of a table is read as that table.
 
@@ -30,50 +30,50 @@ unfoldable pub number_at : List ℕ → ℕ → ℕ
 number_at s i = get_or s i 0 + 2 ^ 8 * get_or s (i + 1) 0 + 2 ^ 16 * get_or s (i + 2) 0 + 2 ^ 24 * get_or s (i + 3) 0
 
 -- n such numbers, one after the other from a place on
-unfoldable pub numbersAt : ℕ → List ℕ → ℕ → List ℕ
-numbersAt zero s i = []
-numbersAt (suc n) s i = number_at s i ∷ numbersAt n s (i + 4)
+unfoldable pub numbers_at : ℕ → List ℕ → ℕ → List ℕ
+numbers_at zero s i = []
+numbers_at (suc n) s i = number_at s i ∷ numbers_at n s (i + 4)
 
-unfoldable pub isTableFile : List ℕ → Bool
+unfoldable pub is_table_file : List ℕ → Bool
 unfolding same
-isTableFile s = same (take 8 s) magic
+is_table_file s = same (take 8 s) magic
 
 -- how many words there are, where the pool begins, and how long the file is, as its head tells
-unfoldable pub wordsTold : List ℕ → ℕ
+unfoldable pub words_told : List ℕ → ℕ
 unfolding number_at
-wordsTold s = number_at s 8
+words_told s = number_at s 8
 
-abbrev pub poolPlace : ℕ → ℕ
-poolPlace words = 16 + 4 * words
+abbrev pub pool_place : ℕ → ℕ
+pool_place words = 16 + 4 * words
 
-unfoldable pub lengthTold : List ℕ → ℕ
-unfolding wordsTold number_at
-lengthTold s = poolPlace (wordsTold s) + number_at s 12
+unfoldable pub length_told : List ℕ → ℕ
+unfolding words_told number_at
+length_told s = pool_place (words_told s) + number_at s 12
 
 unfoldable pub head_of : List ℕ → Head
-unfolding isTableFile wordsTold lengthTold
+unfolding is_table_file words_told length_told
 head_of s =
-    if not (isTableFile s) then NoHead
+    if not (is_table_file s) then NoHead
     else if ltb (length s) 16 then CutShort
-    else Told (wordsTold s) (lengthTold s)
+    else Told (words_told s) (length_told s)
 
 -- the answer, and every word of the lent memory: a file that is refused, or has no room, changes none
-unfoldable pub tableUnder : Head → List ℕ → List ℕ → TableFile × List ℕ
-unfolding numbersAt
-tableUnder NoHead s d = (NotATable, d)
-tableUnder CutShort s d = (WrongLength, d)
-tableUnder (Told words whole) s d =
+unfoldable pub table_under : Head → List ℕ → List ℕ → TableFile × List ℕ
+unfolding numbers_at
+table_under NoHead s d = (NotATable, d)
+table_under CutShort s d = (WrongLength, d)
+table_under (Told words whole) s d =
     if not (eqb (length s) whole) then (WrongLength, d)
     else if ltb (length d) words then (Room words, d)
-    else (Table words (record { 0 = poolPlace words }), numbersAt words s 16 ++ drop words d)
+    else (Table words (record { 0 = pool_place words }), numbers_at words s 16 ++ drop words d)
 
 unfoldable pub table_of : List ℕ → List ℕ → TableFile × List ℕ
-unfolding head_of tableUnder
-table_of s d = tableUnder (head_of s) s d
+unfolding head_of table_under
+table_of s d = table_under (head_of s) s d
 
 -- A file's refusals have numbers past document 01's. Words that find no room are a table too large, 2, for who lends as many as 8,192 nodes have.
-abbrev pub fileNumber : TableFile → ℕ
-fileNumber (Table words pool) = 0
-fileNumber NotATable = 20
-fileNumber WrongLength = 21
-fileNumber (Room words) = 2
+abbrev pub file_number : TableFile → ℕ
+file_number (Table words pool) = 0
+file_number NotATable = 20
+file_number WrongLength = 21
+file_number (Room words) = 2

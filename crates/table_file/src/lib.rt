@@ -1,6 +1,6 @@
 // The node table file, read: docs/TABLE-FILE.md. Any bytes get an answer.
 ghost use Rattle.std.specs.Prelude.{◌≡◌, ◌++◌, ◌+◌, ◌*◌, ◌≤◌, ◌<◌, length, drop};
-ghost use Rattle.table_file.specs.File.{number_at, numbersAt, isTableFile, head_of, table_of};
+ghost use Rattle.table_file.specs.File.{number_at, numbers_at, is_table_file, head_of, table_of};
 
 use meaning::Offset;
 
@@ -38,7 +38,7 @@ fn number(file: &[u8], at: usize) -> u32
 }
 
 fn is_table_file(file: &[u8]) -> bool
-    ensures { result ≡ isTableFile file.now }
+    ensures { result ≡ is_table_file file.now }
 {
     if file.len() < 8 {
         return false;
@@ -68,7 +68,7 @@ pub fn read_head(file: &[u8]) -> Head
 
 fn store_words(file: &[u8], n: usize, out: &mut [u32])
     requires { (16 + 4 * n ≤ length file.now) × (n ≤ length out.old) }
-    ensures { out.new ≡ numbersAt n file.now 16 ++ drop n out.old }
+    ensures { out.new ≡ numbers_at n file.now 16 ++ drop n out.old }
 {
     let mut i = 0;
     while i < n {

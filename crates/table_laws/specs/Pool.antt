@@ -7,46 +7,46 @@ use Rattle.std.proofs.Common.{sym, ap, ◌∙◌, le_refl, le_trans, lt_of_lt_of
 use Rattle.std.proofs.Math.Nat.{le-suc}
 use Rattle.meaning.specs.Ascii.{if◌then◌else◌}
 use Rattle.meaning.specs.First.{first}
-use Rattle.meaning.specs.Table.{nodes, textAt}
-use Rattle.meaning.specs.Refusals.{sizeFault, nodeFault, nestingFault, depthFault, childrenFault, textFault, hasFault, Verdict, refusal, lowestFrom, verdict}
+use Rattle.meaning.specs.Table.{nodes, text_at}
+use Rattle.meaning.specs.Refusals.{size_fault, node_fault, nesting_fault, depth_fault, children_fault, text_fault, has_fault, Verdict, refusal, lowest_from, verdict}
 use Rattle.meaning.specs.Settings.{Settings}
-use Rattle.meaning.specs.Entries.{checkedTable, checkedDocument}
+use Rattle.meaning.specs.Entries.{checked_table, checked_document}
 
 -- tests that agree below n have one first
-pub first-same : (f g : ℕ → Bool) (n : ℕ) → ((k : ℕ) → k < n → f k ≡ g k) → first f n ≡ first g n
+pub first_same : (f g : ℕ → Bool) (n : ℕ) → ((k : ℕ) → k < n → f k ≡ g k) → first f n ≡ first g n
 unfolding first
-first-same f g zero h = refl
-first-same f g (suc n) h = rw (first-same f g n (λ k l. h k (omega arith)), h n (omega arith))
+first_same f g zero h = refl
+first_same f g (suc n) h = rw (first_same f g n (λ k l. h k (omega arith)), h n (omega arith))
 
-module _ (w p q : List ℕ) (size : length p ≡ length q) (named : (i : ℕ) → i < nodes w → textAt w p i ≡ textAt w q i) where
-  same-node : (i : ℕ) → nodeFault w p i ≡ nodeFault w q i
-  unfolding nodeFault
-  same-node i = rw size
+module _ (w p q : List ℕ) (size : length p ≡ length q) (named : (i : ℕ) → i < nodes w → text_at w p i ≡ text_at w q i) where
+  same_node : (i : ℕ) → node_fault w p i ≡ node_fault w q i
+  unfolding node_fault
+  same_node i = rw size
 
-  same_text : (i : ℕ) → i < nodes w → textFault w p i ≡ textFault w q i
-  unfolding textFault
-  same_text i h = rw (named i h)
+  same_text_lem : (i : ℕ) → i < nodes w → text_fault w p i ≡ text_fault w q i
+  unfolding text_fault
+  same_text_lem i h = rw (named i h)
 
-  same-fault : (m i : ℕ) → i < nodes w → hasFault w p m i ≡ hasFault w q m i
-  unfolding hasFault
-  same-fault m i h = rw (same-node i, same_text i h)
+  same_fault : (m i : ℕ) → i < nodes w → has_fault w p m i ≡ has_fault w q m i
+  unfolding has_fault
+  same_fault m i h = rw (same_node i, same_text_lem i h)
 
-  same-lowest : (n m : ℕ) → lowestFrom n m w p ≡ lowestFrom n m w q
-  unfolding lowestFrom
-  same-lowest zero m = refl
-  same-lowest (suc n) m = rw (first-same (hasFault w p m) (hasFault w q m) (nodes w) (same-fault m), same-lowest n (suc m))
+  same_lowest : (n m : ℕ) → lowest_from n m w p ≡ lowest_from n m w q
+  unfolding lowest_from
+  same_lowest zero m = refl
+  same_lowest (suc n) m = rw (first_same (has_fault w p m) (has_fault w q m) (nodes w) (same_fault m), same_lowest n (suc m))
 
-  pub pool-bytes-never-matter : verdict w p ≡ verdict w q
+  pub pool_bytes_never_matter : verdict w p ≡ verdict w q
   unfolding verdict
-  pool-bytes-never-matter = rw (same_size, same-lowest 5 3)
+  pool_bytes_never_matter = rw (same_size, same_lowest 5 3)
     where
-      same_size : sizeFault w p ≡ sizeFault w q
-      same_size = unfold sizeFault in rw size
+      same_size : size_fault w p ≡ size_fault w q
+      same_size = unfold size_fault in rw size
 
-  pub checked-alike : checkedTable w p ≡ checkedTable w q
-  unfolding checkedTable
-  checked-alike = rw pool-bytes-never-matter
+  pub checked_alike : checked_table w p ≡ checked_table w q
+  unfolding checked_table
+  checked_alike = rw pool_bytes_never_matter
 
-  pub document-checked-alike : (s : Settings) → checkedDocument s w p ≡ checkedDocument s w q
-  unfolding checkedDocument
-  document-checked-alike s = rw checked-alike
+  pub document_checked_alike : (s : Settings) → checked_document s w p ≡ checked_document s w q
+  unfolding checked_document
+  document_checked_alike s = rw checked_alike

@@ -1,8 +1,8 @@
 // Whether a text is UTF-8. Runs of ASCII are passed many bytes at a turn, any other sequence is checked whole by its lead byte.
 ghost use Rattle.std.specs.Prelude.{◌≡◌, ℕ, ◌+◌, ◌≤◌, ◌<◌, min, length, get_or, drop};
 ghost use Rattle.meaning.specs.Ascii.{if◌then◌else◌};
-ghost use Rattle.meaning.specs.Utf8.{leadingOnes, goesOn, fine, utf8};
-ghost use Rattle.text.specs.Sequence.{goodEnd, sequence};
+ghost use Rattle.meaning.specs.Utf8.{leading_ones, goes_on, fine, utf8};
+ghost use Rattle.text.specs.Sequence.{good_end, sequence};
 ghost use Rattle.text.specs.Run.{AsciiTo, AsciiRun};
 
 // What is read past the end: a byte that goes on with no sequence, so that a sequence which is cut is bad.
@@ -13,15 +13,15 @@ const FAR: usize = 64;
 
 const NEAR: usize = 8;
 
-// How many one bits a byte begins with; `leadingOnes` stops counting at 5.
+// How many one bits a byte begins with; `leading_ones` stops counting at 5.
 fn leading_ones(b: u8) -> u32
-    ensures { min result 5 ≡ leadingOnes b }
+    ensures { min result 5 ≡ leading_ones b }
 {
     u8::leading_zeros(!b)
 }
 
 fn goes_on(b: u8) -> bool
-    ensures { result ≡ goesOn b }
+    ensures { result ≡ goes_on b }
 {
     leading_ones(b) == 1
 }
@@ -54,7 +54,7 @@ fn byte_at(s: &[u8], i: usize) -> u8
 // How many bytes the sequence has of which k are to stand at i, after a lead byte with the bits `own`; 0 where it is bad.
 fn end_at(s: &[u8], i: usize, k: usize, low: u32, own: u32) -> usize
     requires { (i ≤ length s.now) × (k ≤ 3) × (own < 32) }
-    ensures { result ≡ (if goodEnd k low own (drop i s.now) then k + 1 else 0) }
+    ensures { result ≡ (if good_end k low own (drop i s.now) then k + 1 else 0) }
 {
     let mut n = own;
     let mut at = i;

@@ -4,12 +4,12 @@ use Rattle.std.proofs.Math.Bool.{true, false}
 use Rattle.std.proofs.Math.Nat.{mul-le-mul}
 use native.Mathlib.Omega.{arith}
 use Rattle.std.proofs.Math.ListN.{length}
-use Rattle.meaning.specs.Ascii.{if◌then◌else◌, lineFeed, space}
-use Rattle.meaning.specs.Settings.{Settings, indentation, newLine, newLineOrSpace}
-use Rattle.meaning.specs.Literal.{takesBlock, literal}
-use Rattle.meaning.specs.Demand.{lineFeeds, quotedBound, blockBound}
-use Rattle.literal_laws.specs.BlockBound.{few-feeds}
-use Rattle.literal_laws.specs.Bounded.{length-of-indentation, bounded}
+use Rattle.meaning.specs.Ascii.{if◌then◌else◌, line_feed, space}
+use Rattle.meaning.specs.Settings.{Settings, indentation, new_line, new_line_or_space}
+use Rattle.meaning.specs.Literal.{takes_block, literal}
+use Rattle.meaning.specs.Demand.{line_feeds, quoted_bound, block_bound}
+use Rattle.literal_laws.specs.BlockBound.{few_feeds}
+use Rattle.literal_laws.specs.Bounded.{length_of_indentation, bounded}
 
 -- more than a part writes of its own, and more than it writes around a child
 abbrev pub ample : ℕ
@@ -21,33 +21,33 @@ pub record Within (l : ℕ) (s : Settings) : Type 0 where
   pub level : s.level ≤ l
 
 module _ {l : ℕ} (low : l ≤ 129) {s : Settings} (w : Within l s) where
-  indent-is-short : s.level * length s.prefix ≤ 2064
-  indent-is-short = let k : s.level ≤ 129 = omega (arith, w.level) in omega (arith, mul-le-mul k w.prefix)
+  indent_is_short : s.level * length s.prefix ≤ 2064
+  indent_is_short = let k : s.level ≤ 129 = omega (arith, w.level) in omega (arith, mul-le-mul k w.prefix)
 
-  pub new-line-is-short : length (newLine s) ≤ 2065
-  unfolding newLine
-  new-line-is-short = go s.breaks
+  pub new_line_is_short : length (new_line s) ≤ 2065
+  unfolding new_line
+  new_line_is_short = go s.breaks
     where
-      go : (b : Bool) → length (if b then lineFeed ∷ indentation s else []) ≤ 2065
-      go true = omega (arith, length-of-indentation s, indent-is-short)
+      go : (b : Bool) → length (if b then line_feed ∷ indentation s else []) ≤ 2065
+      go true = omega (arith, length_of_indentation s, indent_is_short)
       go false = omega arith
 
-  pub line-or-space-is-short : length (newLineOrSpace s) ≤ 2065
-  unfolding newLineOrSpace
-  line-or-space-is-short = go s.breaks
+  pub line_or_space_is_short : length (new_line_or_space s) ≤ 2065
+  unfolding new_line_or_space
+  line_or_space_is_short = go s.breaks
     where
-      go : (b : Bool) → length (if b then lineFeed ∷ indentation s else space ∷ []) ≤ 2065
-      go true = omega (arith, length-of-indentation s, indent-is-short)
+      go : (b : Bool) → length (if b then line_feed ∷ indentation s else space ∷ []) ≤ 2065
+      go true = omega (arith, length_of_indentation s, indent_is_short)
       go false = omega arith
 
-  pub literal-is-short : (d : Bool) (v : List ℕ) → length v ≤ 65536 → length (literal s d v) ≤ ample
-  unfolding quotedBound blockBound
-  literal-is-short d v h = go (takesBlock s d v) (bounded s d v)
+  pub literal_is_short : (d : Bool) (v : List ℕ) → length v ≤ 65536 → length (literal s d v) ≤ ample
+  unfolding quoted_bound block_bound
+  literal_is_short d v h = go (takes_block s d v) (bounded s d v)
     where
       go : (b : Bool)
-          → length (literal s d v) ≤ (if b then blockBound (length v) (lineFeeds v) (s.level * length s.prefix) else quotedBound (length v))
+          → length (literal s d v) ≤ (if b then block_bound (length v) (line_feeds v) (s.level * length s.prefix) else quoted_bound (length v))
           → length (literal s d v) ≤ ample
       go true k =
-          let f : lineFeeds v + 2 ≤ 65538 = omega (arith, few-feeds v) in
-          omega (arith, mul-le-mul f indent-is-short)
+          let f : line_feeds v + 2 ≤ 65538 = omega (arith, few_feeds v) in
+          omega (arith, mul-le-mul f indent_is_short)
       go false k = omega arith

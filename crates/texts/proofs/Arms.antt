@@ -9,42 +9,42 @@ use lib.ListN.{get_or}
 use borrow.Author.Tests.{eqb-true}
 use Rattle.base.specs.Finite.{all}
 use Rattle.base.specs.Arms.{Rest, member, arm}
-use Rattle.meaning.specs.Children.{TextRule, noText, name, nameOrEmpty, fragmentName, enumName, float, int, anyText, row_of}
+use Rattle.meaning.specs.Children.{TextRule, no_text, name, name_or_empty, fragment_name, enum_name, float, int, any_text, row_of}
 
 -- ---- rules by number, so that a test can compare them
 
 abbrev number : TextRule → ℕ
-number noText = 0
+number no_text = 0
 number name = 1
-number nameOrEmpty = 2
-number fragmentName = 3
-number enumName = 4
+number name_or_empty = 2
+number fragment_name = 3
+number enum_name = 4
 number float = 5
 number int = 6
-number anyText = 7
+number any_text = 7
 
 numbered : List TextRule
-numbered = noText ∷ name ∷ nameOrEmpty ∷ fragmentName ∷ enumName ∷ float ∷ int ∷ anyText ∷ []
+numbered = no_text ∷ name ∷ name_or_empty ∷ fragment_name ∷ enum_name ∷ float ∷ int ∷ any_text ∷ []
 
-by_number : (t : TextRule) → get_or numbered (number t) noText ≡ t
+by_number : (t : TextRule) → get_or numbered (number t) no_text ≡ t
 unfolding numbered
-by_number noText = refl
+by_number no_text = refl
 by_number name = refl
-by_number nameOrEmpty = refl
-by_number fragmentName = refl
-by_number enumName = refl
+by_number name_or_empty = refl
+by_number fragment_name = refl
+by_number enum_name = refl
 by_number float = refl
 by_number int = refl
-by_number anyText = refl
+by_number any_text = refl
 
-one-number-one-rule : (t u : TextRule) → number t ≡ number u → t ≡ u
-one-number-one-rule t u e = sym (by_number t) ∙ ap (λ (n : ℕ). get_or numbered n noText) e ∙ by_number u
+one_number_one_rule : (t u : TextRule) → number t ≡ number u → t ≡ u
+one_number_one_rule t u e = sym (by_number t) ∙ ap (λ (n : ℕ). get_or numbered n no_text) e ∙ by_number u
 
 -- ---- the law
 
-pub by-range : (t : TextRule) (low n : ℕ) (xs : List ℕ)
+pub by_range : (t : TextRule) (low n : ℕ) (xs : List ℕ)
     → all (λ j. member (low + j) xs || eqb (number t) (number (row_of (low + j)).text)) n ≡ true
     → (k : ℕ) → (low ≤ k) × (k < low + n) → Rest xs k → t ≡ (row_of k).text
-by-range t low n xs test k (a, b) r =
-    one-number-one-rule t (row_of k).text
+by_range t low n xs test k (a, b) r =
+    one_number_one_rule t (row_of k).text
     (eqb-true _ _ (arm (λ j. eqb (number t) (number (row_of j).text)) low n xs test k a b r))

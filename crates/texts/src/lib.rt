@@ -6,13 +6,13 @@ ghost use Rattle.std.specs.Prelude.{◌≡◌, true, false, ℕ, ◌+◌, ◌≤
 ghost use Rattle.meaning.specs.Kind;
 ghost use Rattle.meaning.specs.Utf8.{utf8};
 ghost use Rattle.meaning.specs.First.{first};
-ghost use Rattle.meaning.specs.Children.{nameOrEmpty, fragmentName, enumName, anyText, row_of};
-ghost use Rattle.meaning.specs.Text.{isReserved, textFits};
-ghost use Rattle.meaning.specs.Refusals.{textFault};
+ghost use Rattle.meaning.specs.Children.{name_or_empty, fragment_name, enum_name, any_text, row_of};
+ghost use Rattle.meaning.specs.Text.{is_reserved, text_fits};
+ghost use Rattle.meaning.specs.Refusals.{text_fault};
 ghost use Rattle.table.specs.Words.{InTable};
 ghost use Rattle.texts.specs.Rule.{meant};
 ghost use Rattle.texts.specs.Known.{KnownText, KnownTexts};
-ghost use Rattle.texts.specs.Plain.{Limited, Full, strange, strangeThrough, byteThrough};
+ghost use Rattle.texts.specs.Plain.{Limited, Full, strange, strange_through, byte_through};
 
 use meaning::NodeNumber;
 use tables::{Limits, Mask};
@@ -66,7 +66,7 @@ fn rule_of(kind: usize) -> Rule
 }
 
 fn is_name_or_empty(s: &[u8]) -> bool
-    ensures { result ≡ textFits nameOrEmpty s.now }
+    ensures { result ≡ text_fits name_or_empty s.now }
 {
     if s.len() == 0 {
         return true;
@@ -75,7 +75,7 @@ fn is_name_or_empty(s: &[u8]) -> bool
 }
 
 fn is_fragment_name(s: &[u8]) -> bool
-    ensures { result ≡ textFits fragmentName s.now }
+    ensures { result ≡ text_fits fragment_name s.now }
 {
     if !names::is_name(s) {
         return false;
@@ -84,7 +84,7 @@ fn is_fragment_name(s: &[u8]) -> bool
 }
 
 fn is_reserved(s: &[u8]) -> bool
-    ensures { result ≡ isReserved s.now }
+    ensures { result ≡ is_reserved s.now }
 {
     if names::same(s, b"true") {
         return true;
@@ -96,7 +96,7 @@ fn is_reserved(s: &[u8]) -> bool
 }
 
 fn is_enum_name(s: &[u8]) -> bool
-    ensures { result ≡ textFits enumName s.now }
+    ensures { result ≡ text_fits enum_name s.now }
 {
     if !names::is_name(s) {
         return false;
@@ -105,7 +105,7 @@ fn is_enum_name(s: &[u8]) -> bool
 }
 
 fn text_fits(rule: Rule, s: &[u8]) -> bool
-    ensures { result ≡ textFits (meant rule) s.now }
+    ensures { result ≡ text_fits (meant rule) s.now }
 {
     match rule {
         Rule::NoText => s.len() == 0,
@@ -121,7 +121,7 @@ fn text_fits(rule: Rule, s: &[u8]) -> bool
 
 fn text_fault(words: &[u32], pool: &[u8], i: NodeNumber) -> bool
     requires { InTable words.now i.0 × KnownText words.now pool.now i.0 }
-    ensures { result ≡ textFault words.now pool.now i.0 }
+    ensures { result ≡ text_fault words.now pool.now i.0 }
 {
     let kind = table::kind(words, i);
     let start = table::start(words, i);
@@ -157,7 +157,7 @@ fn strange(b: u8) -> u8
 // 0 where the text of `n` bytes at `start` has only bytes of a name. With fixed windows the loops become a few wide steps.
 fn strange_bits(pool: &[u8], mask: &Mask, start: usize, n: usize) -> u8
     requires { (start + 64 ≤ length pool.now) × (n ≤ 64) }
-    ensures { (k : ℕ) → k < 16 → strangeThrough pool.now mask.now start n k ≤ result }
+    ensures { (k : ℕ) → k < 16 → strange_through pool.now mask.now start n k ≤ result }
 {
     let from = WINDOW - n;
     let mut bits: u8 = 0;
@@ -172,7 +172,7 @@ fn strange_bits(pool: &[u8], mask: &Mask, start: usize, n: usize) -> u8
 // Below 80 hex where the text of `n` bytes at `start` is ASCII.
 fn text_bits(pool: &[u8], mask: &Mask, start: usize, n: usize) -> u8
     requires { (start + 64 ≤ length pool.now) × (n ≤ 64) }
-    ensures { (k : ℕ) → k < 64 → byteThrough pool.now mask.now start n k ≤ result }
+    ensures { (k : ℕ) → k < 64 → byte_through pool.now mask.now start n k ≤ result }
 {
     let from = WINDOW - n;
     let mut bits: u8 = 0;
@@ -194,7 +194,7 @@ fn is_plain_name(
     n: usize,
 ) -> bool
     requires { Limited limits.now × Full mask.now × (kind < Kind.count) × (start + 64 ≤ length pool.now) }
-    ensures { result ≡ true → textFits (row_of kind).text (take n (drop start pool.now)) ≡ true }
+    ensures { result ≡ true → text_fits (row_of kind).text (take n (drop start pool.now)) ≡ true }
 {
     let row = kind * NUMBERS_PER_KIND;
     if n < wide(limits[row]) {
@@ -225,7 +225,7 @@ fn is_plain_ascii(pool: &[u8], mask: &Mask, start: usize, n: usize) -> bool
 }
 
 fn takes_any_text(kind: usize) -> bool
-    ensures { result ≡ true → (row_of kind).text ≡ anyText }
+    ensures { result ≡ true → (row_of kind).text ≡ any_text }
 {
     if kind == DESCRIPTION {
         return true;
@@ -236,7 +236,7 @@ fn takes_any_text(kind: usize) -> bool
 // Whether the window shows that the text fits. Where it does not, the text may fit all the same.
 fn plainly_fits(words: &[u32], pool: &[u8], limits: &Limits, mask: &Mask, i: NodeNumber) -> bool
     requires { Limited limits.now × Full mask.now × InTable words.now i.0 × KnownText words.now pool.now i.0 }
-    ensures { result ≡ true → textFault words.now pool.now i.0 ≡ false }
+    ensures { result ≡ true → text_fault words.now pool.now i.0 ≡ false }
 {
     let start = table::start(words, i);
     if pool.len() - start < WINDOW {
@@ -255,7 +255,7 @@ fn plainly_fits(words: &[u32], pool: &[u8], limits: &Limits, mask: &Mask, i: Nod
 
 fn fault_at(words: &[u32], pool: &[u8], limits: &Limits, mask: &Mask, i: NodeNumber) -> bool
     requires { Limited limits.now × Full mask.now × InTable words.now i.0 × KnownText words.now pool.now i.0 }
-    ensures { result ≡ textFault words.now pool.now i.0 }
+    ensures { result ≡ text_fault words.now pool.now i.0 }
 {
     if plainly_fits(words, pool, limits, mask, i) {
         return false;
@@ -266,7 +266,7 @@ fn fault_at(words: &[u32], pool: &[u8], limits: &Limits, mask: &Mask, i: NodeNum
 // The same as `first_text_fault`, with the tables lent.
 fn first_fault(words: &[u32], pool: &[u8], limits: &Limits, mask: &Mask, n: usize) -> NodeNumber
     requires { Limited limits.now × Full mask.now × KnownTexts words.now pool.now n }
-    ensures { result.0 ≡ first (textFault words.now pool.now) n }
+    ensures { result.0 ≡ first (text_fault words.now pool.now) n }
 {
     let mut i = 0;
     while i < n {
@@ -281,7 +281,7 @@ fn first_fault(words: &[u32], pool: &[u8], limits: &Limits, mask: &Mask, n: usiz
 // The smallest node with the fault, or the number of nodes.
 pub fn first_text_fault(words: &[u32], pool: &[u8], n: usize) -> NodeNumber
     requires { KnownTexts words.now pool.now n }
-    ensures { result.0 ≡ first (textFault words.now pool.now) n }
+    ensures { result.0 ≡ first (text_fault words.now pool.now) n }
 {
     let limits = tables::LIMITS;
     let mask = tables::MASK;

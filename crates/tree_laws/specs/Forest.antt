@@ -6,7 +6,7 @@ use Rattle.std.proofs.Common.{ap, ap₂, ◌∙◌, arith, lt-ltb, le-ltb}
 use Prim.Native.Nat.{ℕ, zero, suc, ◌+◌, ◌-◌, ◌*◌, ◌≤◌, ◌<◌}
 use Rattle.std.proofs.Math.Decide.{dec_lt}
 use Rattle.meaning.specs.Tree.{Head, Tree, tree, Forest, none, more}
-use Rattle.meaning.specs.Table.{nodes, start_at, length_at, end_at, headAt, forestIn, forest, treeAt}
+use Rattle.meaning.specs.Table.{nodes, start_at, length_at, end_at, head_at, forest_in, forest, tree_at}
 use Rattle.tree_laws.specs.Height.{height, heights}
 
 -- what refusals 2 to 4 leave of a table: few nodes, texts in the pool, ends above, within and nested
@@ -26,65 +26,65 @@ pub record Range (w : List ℕ) (i e : ℕ) : Type 0 where
 
 module _ {w p : List ℕ} (s : Shaped w p) where
   -- the children of a node fill a range, and so do the nodes after a tree
-  pub children-range : (i : ℕ) → i < nodes w → Range w (i + 1) (end_at w i)
-  children-range i h = record { last = s.within i h; order = omega (arith, s.above i h); whole = λ j a b. s.nested i j h (omega arith) b }
+  pub children_range : (i : ℕ) → i < nodes w → Range w (i + 1) (end_at w i)
+  children_range i h = record { last = s.within i h; order = omega (arith, s.above i h); whole = λ j a b. s.nested i j h (omega arith) b }
 
-  pub rest-range : {i e : ℕ} → Range w i e → i < e → Range w (end_at w i) e
-  rest-range {i} {e} r h = record {
+  pub rest_range : {i e : ℕ} → Range w i e → i < e → Range w (end_at w i) e
+  rest_range {i} {e} r h = record {
     last = r.last;
     order = r.whole i (omega arith) h;
     whole = λ j a b. r.whole j (omega (arith, s.above i (omega (arith, r.last)))) b;
   }
 
-  any-bound : (n m i e : ℕ) → Range w i e → e - i ≤ n → e - i ≤ m → forestIn n w p i e ≡ forestIn m w p i e
-  unfolding forestIn
-  any-bound zero zero i e r a b = refl
-  any-bound zero (suc m) i e r a b = rw (le-ltb i e (omega arith), forestIn)
-  any-bound (suc n) zero i e r a b = rw (le-ltb i e (omega arith), forestIn)
-  any-bound (suc n) (suc m) i e r a b =
+  any_bound : (n m i e : ℕ) → Range w i e → e - i ≤ n → e - i ≤ m → forest_in n w p i e ≡ forest_in m w p i e
+  unfolding forest_in
+  any_bound zero zero i e r a b = refl
+  any_bound zero (suc m) i e r a b = rw (le-ltb i e (omega arith), forest_in)
+  any_bound (suc n) zero i e r a b = rw (le-ltb i e (omega arith), forest_in)
+  any_bound (suc n) (suc m) i e r a b =
       elim (dec_lt i e) [
-        | no k ↦ rw (le-ltb i e (omega arith), forestIn)
+        | no k ↦ rw (le-ltb i e (omega arith), forest_in)
         | yes k ↦
             let hi : i < nodes w = omega (arith, r.last) in
             let up : i < end_at w i = s.above i hi in
             let to : end_at w i ≤ e = r.whole i (omega arith) k in
-            let cs = any-bound n m (i + 1) (end_at w i) (children-range i hi) (omega arith) (omega arith) in
-            let ts = any-bound n m (end_at w i) e (rest-range r k) (omega arith) (omega arith) in
-            rw (lt-ltb i e k, forestIn) (ap₂ (λ c t. more (tree (headAt w p i) c) t) cs ts)
+            let cs = any_bound n m (i + 1) (end_at w i) (children_range i hi) (omega arith) (omega arith) in
+            let ts = any_bound n m (end_at w i) e (rest_range r k) (omega arith) (omega arith) in
+            rw (lt-ltb i e k, forest_in) (ap₂ (λ c t. more (tree (head_at w p i) c) t) cs ts)
       ]
 
   -- a node: its tree, and those after it
-  pub forest-more : {i e : ℕ} → Range w i e → i < e → forest w p i e ≡ more (treeAt w p i) (forest w p (end_at w i) e)
-  unfolding forest treeAt forestIn
-  forest-more {i} {e} r k =
+  pub forest_more : {i e : ℕ} → Range w i e → i < e → forest w p i e ≡ more (tree_at w p i) (forest w p (end_at w i) e)
+  unfolding forest tree_at forest_in
+  forest_more {i} {e} r k =
       let hi : i < nodes w = omega (arith, r.last) in
       let up : i < end_at w i = s.above i hi in
       let to : end_at w i ≤ e = r.whole i (omega arith) k in
-      any-bound (e - i) (suc (e - (i + 1))) i e r (omega arith) (omega arith)
-      ∙ rw (lt-ltb i e k, forestIn)
-      (ap₂ (λ c t. more (tree (headAt w p i) c) t)
-      (any-bound (e - (i + 1)) (end_at w i - (i + 1)) (i + 1) (end_at w i) (children-range i hi) (omega arith) (omega arith))
-      (any-bound (e - (i + 1)) (e - end_at w i) (end_at w i) e (rest-range r k) (omega arith) (omega arith)))
+      any_bound (e - i) (suc (e - (i + 1))) i e r (omega arith) (omega arith)
+      ∙ rw (lt-ltb i e k, forest_in)
+      (ap₂ (λ c t. more (tree (head_at w p i) c) t)
+      (any_bound (e - (i + 1)) (end_at w i - (i + 1)) (i + 1) (end_at w i) (children_range i hi) (omega arith) (omega arith))
+      (any_bound (e - (i + 1)) (e - end_at w i) (end_at w i) e (rest_range r k) (omega arith) (omega arith)))
 
   -- a tree of a forest is not taller than the forest, nor are those after it
-  pub tall-first : {i e : ℕ} → Range w i e → i < e → height (treeAt w p i) ≤ heights (forest w p i e)
+  pub tall_first : {i e : ℕ} → Range w i e → i < e → height (tree_at w p i) ≤ heights (forest w p i e)
   unfolding height
-  tall-first r k = rw (forest-more r k) (omega arith)
+  tall_first r k = rw (forest_more r k) (omega arith)
 
-  pub tall-rest : {i e : ℕ} → Range w i e → i < e → heights (forest w p (end_at w i) e) ≤ heights (forest w p i e)
+  pub tall_rest : {i e : ℕ} → Range w i e → i < e → heights (forest w p (end_at w i) e) ≤ heights (forest w p i e)
   unfolding height
-  tall-rest r k = rw (forest-more r k) (omega arith)
+  tall_rest r k = rw (forest_more r k) (omega arith)
 
 -- no node: no tree
-no-tree : (w p : List ℕ) (n i e : ℕ) → e ≤ i → forestIn n w p i e ≡ none
-unfolding forestIn
-no-tree w p zero i e h = refl
-no-tree w p (suc n) i e h = rw (le-ltb i e h, forestIn)
+no_tree : (w p : List ℕ) (n i e : ℕ) → e ≤ i → forest_in n w p i e ≡ none
+unfolding forest_in
+no_tree w p zero i e h = refl
+no_tree w p (suc n) i e h = rw (le-ltb i e h, forest_in)
 
-pub forest-none : (w p : List ℕ) {i e : ℕ} → e ≤ i → forest w p i e ≡ none
+pub forest_none : (w p : List ℕ) {i e : ℕ} → e ≤ i → forest w p i e ≡ none
 unfolding forest
-forest-none w p {i} {e} h = no-tree w p (e - i) i e h
+forest_none w p {i} {e} h = no_tree w p (e - i) i e h
 
-pub tall-below : (w p : List ℕ) (i : ℕ) → height (treeAt w p i) ≡ suc (heights (forest w p (i + 1) (end_at w i)))
-unfolding height treeAt
-tall-below w p i = refl
+pub tall_below : (w p : List ℕ) (i : ℕ) → height (tree_at w p i) ≡ suc (heights (forest w p (i + 1) (end_at w i)))
+unfolding height tree_at
+tall_below w p i = refl

@@ -1,7 +1,7 @@
 // Types: `Int`, `[Int!]!`.
 ghost use Rattle.meaning.specs.Settings.{Settings};
-ghost use Rattle.meaning.specs.Table.{treeAt};
-ghost use Rattle.meaning.specs.Layout.{nodeText};
+ghost use Rattle.meaning.specs.Table.{tree_at};
+ghost use Rattle.meaning.specs.Layout.{node_text};
 ghost use Rattle.pen.specs.Wrote.{Wrote};
 ghost use Rattle.types.specs.TypeJob.{TypeJob};
 
@@ -21,7 +21,7 @@ pub fn serialize_type(
     pen: Pen,
 ) -> Pen
     requires { TypeJob words.now pool.now node.0 depth }
-    ensures { (s : Settings) → Wrote out.old pen (nodeText (treeAt words.now pool.now node.0) s) out.new result }
+    ensures { (s : Settings) → Wrote out.old pen (node_text (tree_at words.now pool.now node.0) s) out.new result }
 {
     let inner = NodeNumber(node.0 + 1);
     let at = Walk {

@@ -4,26 +4,26 @@ use Rattle.vector_lines.specs.declared.Decoded.{Decoded}
 use Rattle.vector_lines.specs.declared.Decoded.TheVariants.{Bytes, Bad}
 
 -- what a digit stands for: `0` to `9`, then `a` to `f`; 16 for any other byte
-unfoldable pub digitOf : ℕ → ℕ
-digitOf b = cond (leb 48 b && leb b 57) (b - 48) (cond (leb 97 b && leb b 102) (b - 87) 16)
+unfoldable pub digit_of : ℕ → ℕ
+digit_of b = cond (leb 48 b && leb b 57) (b - 48) (cond (leb 97 b && leb b 102) (b - 87) 16)
 
-abbrev pub isHex : ℕ → Bool
-isHex b = ltb (digitOf b) 16
+abbrev pub is_hex : ℕ → Bool
+is_hex b = ltb (digit_of b) 16
 
-unfoldable pub allHex : List ℕ → Bool
-allHex [] = true
-allHex (b ∷ s) = isHex b && allHex s
+unfoldable pub all_hex : List ℕ → Bool
+all_hex [] = true
+all_hex (b ∷ s) = is_hex b && all_hex s
 
 -- digits and nothing else, two by two, one pair or more
 unfoldable pub paired : List ℕ → Bool
-unfolding allHex
-paired s = ltb 0 (length s) && (eqb (length s % 2) 0 && allHex s)
+unfolding all_hex
+paired s = ltb 0 (length s) && (eqb (length s % 2) 0 && all_hex s)
 
 -- the byte that each pair stands for
 unfoldable pub pairs : List ℕ → List ℕ
 pairs [] = []
 pairs (a ∷ []) = []
-pairs (a ∷ b ∷ s) = (16 * digitOf a + digitOf b) ∷ pairs s
+pairs (a ∷ b ∷ s) = (16 * digit_of a + digit_of b) ∷ pairs s
 
 unfoldable pub is_none : List ℕ → Bool
 is_none [] = false

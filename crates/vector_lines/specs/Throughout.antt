@@ -1,6 +1,6 @@
 -- Memory that holds one byte throughout.
 use Rattle.std.specs.Prelude.{Bool, true, ◌&&◌, List, [], ◌∷◌, ℕ, eqb}
 
-unfoldable pub allAre : ℕ → List ℕ → Bool
-allAre byte [] = true
-allAre byte (b ∷ s) = eqb b byte && allAre byte s
+unfoldable pub all_are : ℕ → List ℕ → Bool
+all_are byte [] = true
+all_are byte (b ∷ s) = eqb b byte && all_are byte s

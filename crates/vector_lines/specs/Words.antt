@@ -11,25 +11,25 @@ use Rattle.vector_lines.specs.Numbers.{number_of}
 abbrev pub comma : ℕ
 comma = 44
 
-abbrev pub isSmall : Number → Bool
-isSmall (Is n) = ltb n (2 ^ 32)
-isSmall Bad = false
+abbrev pub is_small : Number → Bool
+is_small (Is n) = ltb n (2 ^ 32)
+is_small Bad = false
 
 abbrev pub value : Number → ℕ
 value (Is n) = n
 value Bad = 0
 
 -- a text that is a word, and what word it is
-abbrev pub isWord : List ℕ → Bool
-isWord s = isSmall (number_of s)
+abbrev pub is_word : List ℕ → Bool
+is_word s = is_small (number_of s)
 
 abbrev pub word_of : List ℕ → ℕ
 word_of s = value (number_of s)
 
 -- the first n parts are words, and what words they are
-unfoldable pub areWords : ℕ → List ℕ → Bool
-areWords zero s = true
-areWords (suc n) s = isWord (before comma s) && areWords n (after comma s)
+unfoldable pub are_words : ℕ → List ℕ → Bool
+are_words zero s = true
+are_words (suc n) s = is_word (before comma s) && are_words n (after comma s)
 
 unfoldable pub words_of : ℕ → List ℕ → List ℕ
 words_of zero s = []
@@ -43,4 +43,4 @@ parts_of s = suc (count_of comma s)
 unfoldable pub listed : List ℕ → List ℕ → Listed × List ℕ
 listed s d =
     cond (is_none s) (Words 0, d)
-    (cond (leb (parts_of s) (length d) && areWords (parts_of s) s) (Words (parts_of s), words_of (parts_of s) s ++ drop (parts_of s) d) (NotListed, d))
+    (cond (leb (parts_of s) (length d) && are_words (parts_of s) s) (Words (parts_of s), words_of (parts_of s) s ++ drop (parts_of s) d) (NotListed, d))

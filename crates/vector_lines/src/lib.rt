@@ -2,10 +2,10 @@
 // anything; what is not of this shape is refused.
 ghost use Rattle.std.specs.Prelude.{◌≡◌, true, ◌++◌, ◌+◌, ◌≤◌, ◌<◌, length, get_or, take, drop, replicate};
 ghost use Rattle.vector_lines.specs.Parts.{before, field_of, count_of, Past};
-ghost use Rattle.vector_lines.specs.Hex.{digitOf, paired, pairs, is_none, decoded};
+ghost use Rattle.vector_lines.specs.Hex.{digit_of, paired, pairs, is_none, decoded};
 ghost use Rattle.vector_lines.specs.Numbers.{number_of};
-ghost use Rattle.vector_lines.specs.Words.{isWord, word_of, areWords, words_of, listed};
-ghost use Rattle.vector_lines.specs.Throughout.{allAre};
+ghost use Rattle.vector_lines.specs.Words.{is_word, word_of, are_words, words_of, listed};
+ghost use Rattle.vector_lines.specs.Throughout.{all_are};
 
 #[derive(Drop)]
 pub enum Number {
@@ -94,7 +94,7 @@ pub fn count(s: &[u8], byte: u8) -> usize
 
 // What a hex digit stands for; 16 for any other byte.
 fn digit(b: u8) -> u8
-    ensures { result ≡ digitOf b }
+    ensures { result ≡ digit_of b }
 {
     if b < b'0' {
         return 16;
@@ -211,7 +211,7 @@ pub fn bytes(s: &[u8], out: &mut [u8]) -> Decoded
 }
 
 fn is_word(s: &[u8]) -> bool
-    ensures { result ≡ isWord s.now }
+    ensures { result ≡ is_word s.now }
 {
     match decimal(s) {
         Number::Is(n) => n < 4_294_967_296,
@@ -220,7 +220,7 @@ fn is_word(s: &[u8]) -> bool
 }
 
 fn word(s: &[u8]) -> u32
-    requires { isWord s.now ≡ true }
+    requires { is_word s.now ≡ true }
     ensures { result ≡ word_of s.now }
 {
     match decimal(s) {
@@ -231,7 +231,7 @@ fn word(s: &[u8]) -> u32
 
 // Whether the first `n` parts between commas are words.
 fn are_words(s: &[u8], n: usize) -> bool
-    ensures { result ≡ areWords n s.now }
+    ensures { result ≡ are_words n s.now }
 {
     let mut at = 0;
     let mut left = n;
@@ -246,7 +246,7 @@ fn are_words(s: &[u8], n: usize) -> bool
 }
 
 fn store_words(s: &[u8], n: usize, out: &mut [u32])
-    requires { (areWords n s.now ≡ true) × (n ≤ length out.old) }
+    requires { (are_words n s.now ≡ true) × (n ≤ length out.old) }
     ensures { out.new ≡ words_of n s.now ++ drop n out.old }
 {
     let mut at = 0;
@@ -310,7 +310,7 @@ pub fn fill(out: &mut [u8], byte: u8)
 
 // Whether `s` holds `byte` throughout.
 pub fn is_filled(s: &[u8], byte: u8) -> bool
-    ensures { result ≡ allAre byte s.now }
+    ensures { result ≡ all_are byte s.now }
 {
     let mut i = 0;
     while i < s.len() {

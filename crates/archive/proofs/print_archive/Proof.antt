@@ -1,6 +1,6 @@
 -- The tests of the code are those of `archived`, in its order.
 use borrow.Author.Rules.{rules}
-use Rattle.archive.proofs.Archives.{within, front_length, too_long, no_table, wrong-length, too_many, a-table}
+use Rattle.archive.proofs.Archives.{within, front_length, too_long, no_table, wrong_length, too_many, a_table}
 use Rattle.archive.proofs.print_archive.Statement.{statement}
 use Rattle.archive.proofs.print_archive.Tie as tie
 
@@ -80,7 +80,7 @@ same-length-2 c = search rules
 returns-3 : tie.Need-returns-3
 returns-3 c =
     let t = c.before.before.before.before.before in
-    wrong-length _ _ _ t.before.before.if1.false t.read_table.ensures c.before.enum-told2.given.1 c.refused2.ensures
+    wrong_length _ _ _ t.before.before.if1.false t.read_table.ensures c.before.enum-told2.given.1 c.refused2.ensures
 
 same-length-3 : tie.Need-same-length-3
 same-length-3 c = search rules
@@ -100,7 +100,7 @@ returns-5 : tie.Need-returns-5
 returns-5 c =
     let b = c.before.before.before.before.before.before.before.before in
     let t = b.before.before.before.before in
-    a-table _ _ _ t.before.before.if1.false t.read_table.ensures _ _ b.n.given.1 c.printed.ensures c.before.before.before.print-document.ensures
+    a_table _ _ _ t.before.before.if1.false t.read_table.ensures _ _ b.n.given.1 c.printed.ensures c.before.before.before.print-document.ensures
 
 pub print-archive-spec : {M : Type 1} → statement M
 print-archive-spec =

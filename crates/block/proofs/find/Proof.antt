@@ -4,12 +4,12 @@ use Prim.Native.Nat.{◌-◌}
 use lib.ListN.{length}
 use borrow.Author.Tests.{eq-eqb, ne_eqb}
 use borrow.Author.Rules.{rules}
-use Rattle.block.specs.Places.{Clear, byteThat, is, is-either, clear-for, clear-on, clear-one, found, found_nowhere, byte_at}
+use Rattle.block.specs.Places.{Clear, byte_that, is, is_either_lem, clear_for, clear_on, clear_one, found, found_nowhere, byte_at}
 use Rattle.block.proofs.find.Statement.{statement}
 use Rattle.block.proofs.find.Tie as tie
 
 abbrev invariant-loop : tie.invariant-loop
-invariant-loop value from byte i₀ i = Clear (byteThat (is byte)) value from i
+invariant-loop value from byte i₀ i = Clear (byte_that (is byte)) value from i
 
 abbrev decreases-loop : tie.decreases-loop
 decreases-loop value from byte i₀ i = length value - i
@@ -18,7 +18,7 @@ skip-without-requires : tie.Need-skip-without-requires invariant-loop decreases-
 skip-without-requires c κs = search rules
 
 loop-holds : tie.Need-loop-init invariant-loop decreases-loop
-loop-holds c = clear-for (is-either c.before.before.args.byte) c.skip-without.ensures
+loop-holds c = clear_for (is_either_lem c.before.before.args.byte) c.skip-without.ensures
 
 shared-slice-read-if1 : tie.Need-shared-slice-read-if1 invariant-loop decreases-loop
 shared-slice-read-if1 c = search rules
@@ -39,7 +39,7 @@ loop-again : tie.Need-loop-preserved invariant-loop decreases-loop
 loop-again c =
     let t = c.before.before in
     let h = t.loop-test.true in
-    clear-on t.before.loop.invariant (clear-one h (byte_at (is _) _ _ h ∙ ne_eqb _ _ c.if1.false))
+    clear_on t.before.loop.invariant (clear_one h (byte_at (is _) _ _ h ∙ ne_eqb _ _ c.if1.false))
 
 returns-2 : tie.Need-returns-2 invariant-loop decreases-loop
 returns-2 c = found_nowhere c.before.loop.invariant c.loop-test.false

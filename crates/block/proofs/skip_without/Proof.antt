@@ -4,18 +4,18 @@ use Prim.Native.Nat.{◌-◌}
 use native.Mathlib.Omega.{arith}
 use lib.ListN.{length}
 use borrow.Author.Rules.{rules}
-use Rattle.block.specs.Places.{Clear, byteThat, isEither, clear-at-first, clear-on, clear-part}
+use Rattle.block.specs.Places.{Clear, byte_that, is_either, clear_at_first, clear_on, clear_part}
 use Rattle.block.proofs.skip_without.Statement.{statement}
 use Rattle.block.proofs.skip_without.Tie as tie
 
 abbrev invariant-loop : tie.invariant-loop
-invariant-loop value from a b i₀ i = Clear (byteThat (isEither a b)) value from i
+invariant-loop value from a b i₀ i = Clear (byte_that (is_either a b)) value from i
 
 abbrev decreases-loop : tie.decreases-loop
 decreases-loop value from a b i₀ i = length value - i
 
 loop-holds : tie.Need-loop-init invariant-loop decreases-loop
-loop-holds c = clear-at-first c.before.requires
+loop-holds c = clear_at_first c.before.requires
 
 sub-loop : tie.Need-overflow-sub-loop invariant-loop decreases-loop
 sub-loop c = search rules
@@ -55,8 +55,8 @@ loop-again c =
     let n = c.before.before in
     let l = n.before.before.before.before in
     let a = l.before.before.args in
-    clear-on l.loop.invariant
-    (clear-part a.a a.b (omega arith) (omega arith)
+    clear_on l.loop.invariant
+    (clear_part a.a a.b (omega arith) (omega arith)
     (sym n.before.contains.ensures ∙ n.if1.false)
     (sym c.before.contains2.ensures ∙ c.if2.false))
 

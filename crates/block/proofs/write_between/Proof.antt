@@ -1,9 +1,9 @@
--- By `multiLine`, as `between` goes.
+-- By `multi_line`, as `between` goes.
 use mathlib.Core.Path.{sym, ◌∙◌}
 use borrow.Author.Rules.{rules}
-use Rattle.base.specs.Bools.{not-true, not-false}
+use Rattle.base.specs.Bools.{not_true, not_false}
 use Rattle.pen.specs.Wrote.{◌⨾◌, wrote_as}
-use Rattle.block.specs.Text.{between-on-one-line, between-on-lines}
+use Rattle.block.specs.Text.{between_on_one_line, between_on_lines}
 use Rattle.block.proofs.write_between.Statement.{statement}
 use Rattle.block.proofs.write_between.Tie as tie
 
@@ -19,8 +19,8 @@ same_length c = search rules
 returns : tie.Need-returns
 returns c =
     let n = c.before.before.before.before in
-    let one = sym n.before.multi-line.ensures ∙ not-true _ n.if1.true in
-    wrote_as c.before.before.serialize-line.ensures (between-on-one-line _ _ one)
+    let one = sym n.before.multi-line.ensures ∙ not_true _ n.if1.true in
+    wrote_as c.before.before.serialize-line.ensures (between_on_one_line _ _ one)
 
 write-lines-requires : tie.Need-write-lines-requires
 write-lines-requires c κs = search rules
@@ -36,8 +36,8 @@ returns-2 c =
     let w2 = c.before.before in
     let w1 = w2.before.before.before.before in
     let n = w1.before.before in
-    let several = sym n.before.multi-line.ensures ∙ not-false _ n.if1.false in
-    wrote_as (w1.write-lines.ensures ⨾ w2.new_line.ensures) (between-on-lines _ _ several)
+    let several = sym n.before.multi-line.ensures ∙ not_false _ n.if1.false in
+    wrote_as (w1.write-lines.ensures ⨾ w2.new_line.ensures) (between_on_lines _ _ several)
 
 pub write-between-spec : {M : Type 1} → statement M
 write-between-spec =

@@ -1,7 +1,7 @@
 -- The quotes, what stands between them, and the quotes.
 use borrow.Author.Rules.{rules}
 use Rattle.pen.specs.Wrote.{◌⨾◌, wrote_as}
-use Rattle.block.specs.Text.{between-quotes}
+use Rattle.block.specs.Text.{between_quotes}
 use Rattle.block.proofs.write_block_string.Statement.{statement}
 use Rattle.block.proofs.write_block_string.Tie as tie
 
@@ -28,7 +28,7 @@ returns c =
     let w3 = c.before.before in
     let w2 = w3.before.before.before.before.before in
     let w1 = w2.before.before.before.before in
-    wrote_as (w1.write.ensures ⨾ w2.write-between.ensures ⨾ w3.write2.ensures) (between-quotes _ _)
+    wrote_as (w1.write.ensures ⨾ w2.write-between.ensures ⨾ w3.write2.ensures) (between_quotes _ _)
 
 pub write-block-string-spec : {M : Type 1} → statement M
 write-block-string-spec =

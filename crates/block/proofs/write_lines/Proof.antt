@@ -6,9 +6,9 @@ use lib.ListN.{length, drop}
 use borrow.Author.Rules.{rules}
 use Rattle.meaning.specs.Block.{lines, block_lines}
 use Rattle.meaning.specs.Settings.{times}
-use Rattle.pen.specs.Wrote.{Left, left-all, left_step, left-done, left_as}
-use Rattle.block.specs.Text.{last-block-line, next-block-line}
-use Rattle.block.specs.Places.{before-end}
+use Rattle.pen.specs.Wrote.{Left, left_all, left_step, left_done, left_as}
+use Rattle.block.specs.Text.{last_block_line, next_block_line}
+use Rattle.block.specs.Places.{before_end}
 use Rattle.block.proofs.write_lines.Statement.{statement}
 use Rattle.block.proofs.write_lines.Tie as tie
 
@@ -21,7 +21,7 @@ abbrev decreases-loop : tie.decreases-loop
 decreases-loop value prefix level out₀ p₀ from₀ out p from = length value - from
 
 loop-holds : tie.Need-loop-init invariant-loop decreases-loop
-loop-holds c = (search rules, left-all (omega arith), search rules)
+loop-holds c = (search rules, left_all (omega arith), search rules)
 
 find-requires : tie.Need-find-requires invariant-loop decreases-loop
 find-requires c κs = search rules
@@ -45,8 +45,8 @@ returns : tie.Need-returns invariant-loop decreases-loop
 returns c =
     let w = c.before.before.before in
     let f = w.before.before.before in
-    let n = last-block-line _ f.find.ensures c.if1.true in
-    left-done (left_step (left_as f.before.loop.invariant.1 n) w.write-line.ensures)
+    let n = last_block_line _ f.find.ensures c.if1.true in
+    left_done (left_step (left_as f.before.loop.invariant.1 n) w.write-line.ensures)
 
 add-from : tie.Need-overflow-add-from invariant-loop decreases-loop
 add-from c = search rules
@@ -59,9 +59,9 @@ loop-again c =
     let w = c.before.before.before in
     let f = w.before.before.before in
     let e = f.find.ensures in
-    let h = before-end e c.if1.false in
+    let h = before_end e c.if1.false in
     let l = f.before.loop.invariant.1 in
-    (search rules, left_step (left_as l (next-block-line _ e h)) w.write-line.ensures, search rules)
+    (search rules, left_step (left_as l (next_block_line _ e h)) w.write-line.ensures, search rules)
 
 pub write-lines-spec : {M : Type 1} → statement M
 write-lines-spec =

@@ -1,6 +1,6 @@
 -- `check_table::check_document` meets its contract: number 1, and then the table.
 use mathlib.Core.Path.{◌∙◌}
-use Rattle.check_table.specs.Stages.{refuses-settings, leaves_table}
+use Rattle.check_table.specs.Stages.{refuses_settings, leaves_table}
 use borrow.Author.Rules.{rules}
 use Rattle.check_table.proofs.check_document.Statement.{statement}
 use Rattle.check_table.proofs.check_document.Tie as tie
@@ -9,7 +9,7 @@ settings-fault-requires : tie.Need-settings-fault-requires
 settings-fault-requires c κs = search rules
 
 returns : tie.Need-returns
-returns c = refuses-settings _ _ _ _ c.before.settings-fault.ensures c.if1.true
+returns c = refuses_settings _ _ _ _ c.before.settings-fault.ensures c.if1.true
 
 check-table-requires : tie.Need-check-table-requires
 check-table-requires c κs = search rules

@@ -1,6 +1,6 @@
 -- The kinds passed have their columns.
-use Rattle.children.proofs.Columns.{columns-more}
-use Rattle.children.specs.States.{columnOf}
+use Rattle.children.proofs.Columns.{columns_more}
+use Rattle.children.specs.States.{column_of}
 use borrow.Author.Rules.{rules}
 use lib.ListN.{length, get_or}
 use native.Mathlib.Omega.{arith}
@@ -10,7 +10,7 @@ use Rattle.children.proofs.fill.Statement.{statement}
 use Rattle.children.proofs.fill.Tie as tie
 
 abbrev invariant-loop : tie.invariant-loop
-invariant-loop columns₀ k₀ columns k = (k ≤ 45) × (length columns ≡ 45) × ((j : ℕ) → j < k → get_or columns j 0 ≡ columnOf j 1)
+invariant-loop columns₀ k₀ columns k = (k ≤ 45) × (length columns ≡ 45) × ((j : ℕ) → j < k → get_or columns j 0 ≡ column_of j 1)
 
 abbrev decreases-loop : tie.decreases-loop
 decreases-loop columns₀ k₀ columns k = 45 - k
@@ -36,7 +36,7 @@ loop-less c = omega arith
 loop-again : tie.Need-loop-preserved invariant-loop decreases-loop
 loop-again c =
     let at-loop = c.before.before in
-    (omega arith, search rules, columns-more at-loop.loop.columns at-loop.loop.k c.column.result (omega arith) at-loop.loop.invariant.2 c.column.ensures.0)
+    (omega arith, search rules, columns_more at-loop.loop.columns at-loop.loop.k c.column.result (omega arith) at-loop.loop.invariant.2 c.column.ensures.0)
 
 returns : tie.Need-returns invariant-loop decreases-loop
 returns c = record { each = λ k l. c.before.loop.invariant.2 k (omega arith) }

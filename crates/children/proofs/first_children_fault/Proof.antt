@@ -1,6 +1,6 @@
 -- `children::first_children_fault` meets its contract: its table is the one that is shown to be right.
 use borrow.Author.Rules.{rules}
-use Rattle.children.proofs.Table.{table, table-right}
+use Rattle.children.proofs.Table.{table, table_right}
 use Rattle.children.proofs.first_children_fault.Statement.{statement}
 use Rattle.children.proofs.first_children_fault.Tie as tie
 
@@ -9,7 +9,7 @@ fill-requires c κs = search rules
 
 first-fault-requires : tie.Need-first-fault-requires
 unfolding table
-first-fault-requires c κs = (table-right, search rules, search rules)
+first-fault-requires c κs = (table_right, search rules, search rules)
 
 returns : tie.Need-returns
 returns c = search rules

@@ -2,17 +2,17 @@
 use Prim.Native.Nat.{◌-◌, ◌<◌}
 use mathlib.Core.Path.{◌≡◌, refl, ◌∙◌}
 use native.Mathlib.Omega.{arith}
-use Rattle.meaning.specs.Refusals.{nodeIn}
+use Rattle.meaning.specs.Refusals.{node_in}
 use Rattle.children.specs.Shaped.{from}
 use Rattle.children.specs.Walk.{fills}
-use Rattle.children.specs.States.{state_of, stateCount}
+use Rattle.children.specs.States.{state_of, state_count}
 use Rattle.children.proofs.Family.{walk_step, walk_end}
 use Rattle.children.proofs.fits.Statement.{statement}
 use Rattle.children.proofs.fits.Tie as tie
 
 abbrev invariant-loop : tie.invariant-loop
 invariant-loop words t columns start first end p₀ c₀ p c =
-    (p < stateCount) × (fills (nodeIn words) (state_of p) (from words c end) ≡ fills (nodeIn words) (state_of start) (from words first end))
+    (p < state_count) × (fills (node_in words) (state_of p) (from words c end) ≡ fills (node_in words) (state_of start) (from words first end))
 
 abbrev decreases-loop : tie.decreases-loop
 decreases-loop words t columns start first end p₀ c₀ p c = end - c

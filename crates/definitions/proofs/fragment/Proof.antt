@@ -1,13 +1,13 @@
 -- `definitions::fragment` meets its contract: the parts of its rule, one after the other.
-use Rattle.definitions.specs.Segments.{body, did-separated, parts-kept, parts-walked}
-use Rattle.serialize.specs.Parts.{Parts, jobs-kept, jobs-walked, did-one, did-spaced, did-braces}
-use Rattle.layout.specs.Did.{◌⨾◌, did-tokens, did-name, a-child, no-child, node-written}
-use Rattle.layout.specs.Jobs.{rest-within, rest-ranged, here}
-use Rattle.layout.specs.Written.{kept-none, kept-as}
-use Rattle.pen.specs.Wrote.{wrote-length}
-use Rattle.meaning.specs.Rules.{token, sp, separated, child, ruleOf}
-use Rattle.meaning.specs.Children.{a, type, namedType, selection}
-use Rattle.meaning.specs.Settings.{defaultSettings}
+use Rattle.definitions.specs.Segments.{body, did_separated, parts_kept, parts_walked}
+use Rattle.serialize.specs.Parts.{Parts, jobs_kept, jobs_walked, did_one, did_spaced, did_braces}
+use Rattle.layout.specs.Did.{◌⨾◌, did_tokens, did_name, a_child, no_child, node_written}
+use Rattle.layout.specs.Jobs.{rest_within, rest_ranged, here}
+use Rattle.layout.specs.Written.{kept_none, kept_as}
+use Rattle.pen.specs.Wrote.{wrote_length}
+use Rattle.meaning.specs.Rules.{token, sp, separated, child, rule_of}
+use Rattle.meaning.specs.Children.{a, type, named_type, selection}
+use Rattle.meaning.specs.Settings.{default_settings}
 use Rattle.meaning.specs.Ascii.{ascii}
 use native.Mathlib.Omega.{arith}
 use Prim.Native.Nat.{◌+◌, ◌-◌}
@@ -32,17 +32,17 @@ token-requires-2 : tie.Need-token-requires-2
 token-requires-2 c κs = tt
 
 one-requires : tie.Need-one-requires
-one-requires c κs = here (jobs-kept (jobs-kept (jobs-kept c.before.before.before.before.before.before.before.before.before.before.before.before.before.before.before.before.before.before.before.requires.jobs c.before.before.before.before.before.before.before.before.before.before.before.before.token.ensures) c.before.before.before.before.before.before.before.before.name.ensures) c.before.before.before.token2.ensures)
+one-requires c κs = here (jobs_kept (jobs_kept (jobs_kept c.before.before.before.before.before.before.before.before.before.before.before.before.before.before.before.before.before.before.before.requires.jobs c.before.before.before.before.before.before.before.before.before.before.before.before.token.ensures) c.before.before.before.before.before.before.before.before.name.ensures) c.before.before.before.token2.ensures)
 
 tail-requires : tie.Need-tail-requires
-tail-requires c κs = jobs-walked (jobs-kept (jobs-kept (jobs-kept c.before.before.before.before.before.before.before.before.before.before.before.before.before.before.before.before.before.before.before.before.before.before.before.requires.jobs c.before.before.before.before.before.before.before.before.before.before.before.before.before.before.before.before.token.ensures) c.before.before.before.before.before.before.before.before.before.before.before.before.name.ensures) c.before.before.before.before.before.before.before.token2.ensures) c.before.before.before.one.ensures
+tail-requires c κs = jobs_walked (jobs_kept (jobs_kept (jobs_kept c.before.before.before.before.before.before.before.before.before.before.before.before.before.before.before.before.before.before.before.before.before.before.before.requires.jobs c.before.before.before.before.before.before.before.before.before.before.before.before.before.before.before.before.token.ensures) c.before.before.before.before.before.before.before.before.before.before.before.before.name.ensures) c.before.before.before.before.before.before.before.token2.ensures) c.before.before.before.one.ensures
 
 returns : tie.Need-returns
-unfolding ruleOf
-returns c = did-tokens (token "fragment" ++ sp) refl c.before.before.before.before.before.before.before.before.before.before.before.before.before.before.before.before.before.before.before.token.ensures ⨾ did-name c.before.before.before.before.before.before.before.before.before.before.before.before.before.before.before.name.ensures ⨾ did-tokens (sp ++ token "on" ++ sp) refl c.before.before.before.before.before.before.before.before.before.before.token2.ensures ⨾ did-one namedType c.before.before.before.before.before.before.one.ensures ⨾ c.before.before.tail.ensures _
+unfolding rule_of
+returns c = did_tokens (token "fragment" ++ sp) refl c.before.before.before.before.before.before.before.before.before.before.before.before.before.before.before.before.before.before.before.token.ensures ⨾ did_name c.before.before.before.before.before.before.before.before.before.before.before.before.before.before.before.name.ensures ⨾ did_tokens (sp ++ token "on" ++ sp) refl c.before.before.before.before.before.before.before.before.before.before.token2.ensures ⨾ did_one named_type c.before.before.before.before.before.before.one.ensures ⨾ c.before.before.tail.ensures _
 
 same_length : tie.Need-same-length
-same_length c = wrote-length (returns c).walked.wrote
+same_length c = wrote_length (returns c).walked.wrote
 
 pub fragment-spec : {M : Type 1} → statement M
 fragment-spec =

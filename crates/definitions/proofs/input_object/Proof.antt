@@ -1,13 +1,13 @@
 -- `definitions::input_object` meets its contract: the parts of its rule, one after the other.
-use Rattle.definitions.specs.Segments.{body, did-separated, parts-kept, parts-walked}
-use Rattle.serialize.specs.Parts.{Parts, jobs-kept, jobs-walked, did-one, did-spaced, did-braces}
-use Rattle.layout.specs.Did.{◌⨾◌, did-tokens, did-name, a-child, no-child, node-written}
-use Rattle.layout.specs.Jobs.{rest-within, rest-ranged, here}
-use Rattle.layout.specs.Written.{kept-none, kept-as}
-use Rattle.pen.specs.Wrote.{wrote-length}
-use Rattle.meaning.specs.Rules.{token, sp, separated, child, ruleOf}
-use Rattle.meaning.specs.Children.{a, type, namedType, selection}
-use Rattle.meaning.specs.Settings.{defaultSettings}
+use Rattle.definitions.specs.Segments.{body, did_separated, parts_kept, parts_walked}
+use Rattle.serialize.specs.Parts.{Parts, jobs_kept, jobs_walked, did_one, did_spaced, did_braces}
+use Rattle.layout.specs.Did.{◌⨾◌, did_tokens, did_name, a_child, no_child, node_written}
+use Rattle.layout.specs.Jobs.{rest_within, rest_ranged, here}
+use Rattle.layout.specs.Written.{kept_none, kept_as}
+use Rattle.pen.specs.Wrote.{wrote_length}
+use Rattle.meaning.specs.Rules.{token, sp, separated, child, rule_of}
+use Rattle.meaning.specs.Children.{a, type, named_type, selection}
+use Rattle.meaning.specs.Settings.{default_settings}
 use Rattle.meaning.specs.Ascii.{ascii}
 use native.Mathlib.Omega.{arith}
 use Prim.Native.Nat.{◌+◌, ◌-◌}
@@ -26,17 +26,17 @@ name-requires : tie.Need-name-requires
 name-requires c κs = c.before.before.before.before.before.before.before.before.before.before.requires.text
 
 directives-requires : tie.Need-directives-requires
-directives-requires c κs = here (jobs-kept (jobs-kept c.before.before.before.before.before.before.before.before.before.before.before.before.before.before.requires.jobs c.before.before.before.before.before.before.before.token.ensures) c.before.before.before.name.ensures)
+directives-requires c κs = here (jobs_kept (jobs_kept c.before.before.before.before.before.before.before.before.before.before.before.before.before.before.requires.jobs c.before.before.before.before.before.before.before.token.ensures) c.before.before.before.name.ensures)
 
 opt-braces-requires : tie.Need-opt-braces-requires
-opt-braces-requires c κs = jobs-walked (jobs-kept (jobs-kept c.before.before.before.before.before.before.before.before.before.before.before.before.before.before.before.before.before.before.requires.jobs c.before.before.before.before.before.before.before.before.before.before.before.token.ensures) c.before.before.before.before.before.before.before.name.ensures) c.before.before.before.directives.ensures
+opt-braces-requires c κs = jobs_walked (jobs_kept (jobs_kept c.before.before.before.before.before.before.before.before.before.before.before.before.before.before.before.before.before.before.requires.jobs c.before.before.before.before.before.before.before.before.before.before.before.token.ensures) c.before.before.before.before.before.before.before.name.ensures) c.before.before.before.directives.ensures
 
 returns : tie.Need-returns
 unfolding body
-returns c = did-tokens (token "input" ++ sp) refl c.before.before.before.before.before.before.before.before.before.before.before.before.before.before.token.ensures ⨾ did-name c.before.before.before.before.before.before.before.before.before.before.name.ensures ⨾ did-spaced _ c.before.before.before.before.before.before.directives.ensures ⨾ c.before.before.opt-braces.ensures _
+returns c = did_tokens (token "input" ++ sp) refl c.before.before.before.before.before.before.before.before.before.before.before.before.before.before.token.ensures ⨾ did_name c.before.before.before.before.before.before.before.before.before.before.name.ensures ⨾ did_spaced _ c.before.before.before.before.before.before.directives.ensures ⨾ c.before.before.opt-braces.ensures _
 
 same_length : tie.Need-same-length
-same_length c = wrote-length (returns c).walked.wrote
+same_length c = wrote_length (returns c).walked.wrote
 
 pub input-object-spec : {M : Type 1} → statement M
 input-object-spec =

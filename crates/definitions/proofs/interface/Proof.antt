@@ -1,13 +1,13 @@
 -- `definitions::interface` meets its contract: the parts of its rule, one after the other.
-use Rattle.definitions.specs.Segments.{body, did-separated, parts-kept, parts-walked}
-use Rattle.serialize.specs.Parts.{Parts, jobs-kept, jobs-walked, did-one, did-spaced, did-braces}
-use Rattle.layout.specs.Did.{◌⨾◌, did-tokens, did-name, a-child, no-child, node-written}
-use Rattle.layout.specs.Jobs.{rest-within, rest-ranged, here}
-use Rattle.layout.specs.Written.{kept-none, kept-as}
-use Rattle.pen.specs.Wrote.{wrote-length}
-use Rattle.meaning.specs.Rules.{token, sp, separated, child, ruleOf}
-use Rattle.meaning.specs.Children.{a, type, namedType, selection}
-use Rattle.meaning.specs.Settings.{defaultSettings}
+use Rattle.definitions.specs.Segments.{body, did_separated, parts_kept, parts_walked}
+use Rattle.serialize.specs.Parts.{Parts, jobs_kept, jobs_walked, did_one, did_spaced, did_braces}
+use Rattle.layout.specs.Did.{◌⨾◌, did_tokens, did_name, a_child, no_child, node_written}
+use Rattle.layout.specs.Jobs.{rest_within, rest_ranged, here}
+use Rattle.layout.specs.Written.{kept_none, kept_as}
+use Rattle.pen.specs.Wrote.{wrote_length}
+use Rattle.meaning.specs.Rules.{token, sp, separated, child, rule_of}
+use Rattle.meaning.specs.Children.{a, type, named_type, selection}
+use Rattle.meaning.specs.Settings.{default_settings}
 use Rattle.meaning.specs.Ascii.{ascii}
 use native.Mathlib.Omega.{arith}
 use Prim.Native.Nat.{◌+◌, ◌-◌}
@@ -23,14 +23,14 @@ token-requires : tie.Need-token-requires
 token-requires c κs = tt
 
 object-type-like-requires : tie.Need-object-type-like-requires
-object-type-like-requires c κs = parts-kept (c.before.before.before.before.before.before.before.before.before.before.requires) c.before.before.before.token.ensures
+object-type-like-requires c κs = parts_kept (c.before.before.before.before.before.before.before.before.before.before.requires) c.before.before.before.token.ensures
 
 returns : tie.Need-returns
 unfolding body
-returns c = did-tokens (token "interface" ++ sp) refl c.before.before.before.before.before.before.token.ensures ⨾ c.before.before.object-type-like.ensures
+returns c = did_tokens (token "interface" ++ sp) refl c.before.before.before.before.before.before.token.ensures ⨾ c.before.before.object-type-like.ensures
 
 same_length : tie.Need-same-length
-same_length c = wrote-length (returns c).walked.wrote
+same_length c = wrote_length (returns c).walked.wrote
 
 pub interface-spec : {M : Type 1} → statement M
 interface-spec =

@@ -1,13 +1,13 @@
 -- `definitions::operation` meets its contract: the parts of its rule, one after the other.
-use Rattle.definitions.specs.Segments.{body, did-separated, parts-kept, parts-walked}
-use Rattle.serialize.specs.Parts.{Parts, jobs-kept, jobs-walked, did-one, did-spaced, did-braces}
-use Rattle.layout.specs.Did.{◌⨾◌, did-tokens, did-name, a-child, no-child, node-written}
-use Rattle.layout.specs.Jobs.{rest-within, rest-ranged, here}
-use Rattle.layout.specs.Written.{kept-none, kept-as}
-use Rattle.pen.specs.Wrote.{wrote-length}
-use Rattle.meaning.specs.Rules.{token, sp, separated, child, ruleOf}
-use Rattle.meaning.specs.Children.{a, type, namedType, selection}
-use Rattle.meaning.specs.Settings.{defaultSettings}
+use Rattle.definitions.specs.Segments.{body, did_separated, parts_kept, parts_walked}
+use Rattle.serialize.specs.Parts.{Parts, jobs_kept, jobs_walked, did_one, did_spaced, did_braces}
+use Rattle.layout.specs.Did.{◌⨾◌, did_tokens, did_name, a_child, no_child, node_written}
+use Rattle.layout.specs.Jobs.{rest_within, rest_ranged, here}
+use Rattle.layout.specs.Written.{kept_none, kept_as}
+use Rattle.pen.specs.Wrote.{wrote_length}
+use Rattle.meaning.specs.Rules.{token, sp, separated, child, rule_of}
+use Rattle.meaning.specs.Children.{a, type, named_type, selection}
+use Rattle.meaning.specs.Settings.{default_settings}
 use Rattle.meaning.specs.Ascii.{ascii}
 use native.Mathlib.Omega.{arith}
 use Prim.Native.Nat.{◌+◌, ◌-◌}
@@ -26,17 +26,17 @@ if-named-requires : tie.Need-if-named-requires
 if-named-requires c κs = c.before.before.before.before.before.before.before.before.before.before.requires.text
 
 arguments-requires : tie.Need-arguments-requires
-arguments-requires c κs = jobs-walked (jobs-walked c.before.before.before.before.before.before.before.before.before.before.before.before.before.before.requires.jobs (c.before.before.before.before.before.before.before.before.operation-type.ensures _ defaultSettings _).walked) (c.before.before.before.if-named.ensures defaultSettings _ (sp) refl refl).walked
+arguments-requires c κs = jobs_walked (jobs_walked c.before.before.before.before.before.before.before.before.before.before.before.before.before.before.requires.jobs (c.before.before.before.before.before.before.before.before.operation-type.ensures _ default_settings _).walked) (c.before.before.before.if-named.ensures default_settings _ (sp) refl refl).walked
 
 tail-requires : tie.Need-tail-requires
-tail-requires c κs = jobs-walked (jobs-walked (jobs-walked c.before.before.before.before.before.before.before.before.before.before.before.before.before.before.before.before.before.before.requires.jobs (c.before.before.before.before.before.before.before.before.before.before.before.before.operation-type.ensures _ defaultSettings _).walked) (c.before.before.before.before.before.before.before.if-named.ensures defaultSettings _ (sp) refl refl).walked) (c.before.before.before.arguments.ensures 0).walked
+tail-requires c κs = jobs_walked (jobs_walked (jobs_walked c.before.before.before.before.before.before.before.before.before.before.before.before.before.before.before.before.before.before.requires.jobs (c.before.before.before.before.before.before.before.before.before.before.before.before.operation-type.ensures _ default_settings _).walked) (c.before.before.before.before.before.before.before.if-named.ensures default_settings _ (sp) refl refl).walked) (c.before.before.before.arguments.ensures 0).walked
 
 returns : tie.Need-returns
-unfolding ruleOf
+unfolding rule_of
 returns c = c.before.before.before.before.before.before.before.before.before.before.before.before.before.before.before.operation-type.ensures _ _ _ ⨾ c.before.before.before.before.before.before.before.before.before.before.if-named.ensures _ _ (sp) refl refl ⨾ c.before.before.before.before.before.before.arguments.ensures _ ⨾ c.before.before.tail.ensures _
 
 same_length : tie.Need-same-length
-same_length c = wrote-length (returns c).walked.wrote
+same_length c = wrote_length (returns c).walked.wrote
 
 pub operation-spec : {M : Type 1} → statement M
 operation-spec =

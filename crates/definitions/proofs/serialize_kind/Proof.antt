@@ -1,7 +1,7 @@
-use Rattle.definitions.specs.Segments.{not-zero, above-eleven}
+use Rattle.definitions.specs.Segments.{not_zero, above_eleven}
 -- `definitions::serialize_kind` meets its contract: a function for each kind, one for the types and one for their extensions.
-use Rattle.pen.specs.Wrote.{wrote-length}
-use Rattle.meaning.specs.Rules.{ruleOf}
+use Rattle.pen.specs.Wrote.{wrote_length}
+use Rattle.meaning.specs.Rules.{rule_of}
 use native.Mathlib.Omega.{arith}
 use mathlib.Core.Logic.{⊎_elim}
 use borrow.Author.Rules.{rules}
@@ -27,7 +27,7 @@ type-definition-requires : tie.Need-type-definition-requires
 type-definition-requires c κs = search rules
 
 type-extension-requires : tie.Need-type-extension-requires
-type-extension-requires c κs = (c.before.before.before.before.before.before.before.requires.0, ⊎_elim (λ x. not-zero _ c.before.before.before.before.before.before.before.requires.1 x.taken) (λ x. above-eleven _ x.1.left c.before.before.match.rest.1) c.before.if1.branch, c.before.before.before.before.before.before.before.requires.2)
+type-extension-requires c κs = (c.before.before.before.before.before.before.before.requires.0, ⊎_elim (λ x. not_zero _ c.before.before.before.before.before.before.before.requires.1 x.taken) (λ x. above_eleven _ x.1.left c.before.before.match.rest.1) c.before.if1.branch, c.before.before.before.before.before.before.before.requires.2)
 
 same_length : tie.Need-same-length
 same_length c = search rules

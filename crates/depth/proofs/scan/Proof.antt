@@ -2,8 +2,8 @@
 use Prim.Native.Nat.{◌-◌, ◌≤◌}
 use native.Mathlib.Omega.{arith}
 use lib.ListN.{length}
-use Rattle.table_laws.specs.First.{first-none}
-use Rattle.depth.proofs.Laws.{Scanned, scan_begins, scan-more, too-deep, depth-here, depth_le, closed-le}
+use Rattle.table_laws.specs.First.{first_none}
+use Rattle.depth.proofs.Laws.{Scanned, scan_begins, scan_more, too_deep_lem, depth_here, depth_le, closed_le}
 use Rattle.depth.proofs.scan.Statement.{statement}
 use Rattle.depth.proofs.scan.Tie as tie
 
@@ -23,7 +23,7 @@ slice-read-here : tie.Need-slice-read-here invariant-loop decreases-loop
 slice-read-here c = omega arith
 
 sub-here : tie.Need-overflow-sub-here invariant-loop decreases-loop
-sub-here c = omega (arith, depth-here c.before.before.loop.invariant)
+sub-here c = omega (arith, depth_here c.before.before.loop.invariant)
 
 same_length : tie.Need-same-length invariant-loop decreases-loop
 same_length c = c.before.before.before.loop.invariant.same
@@ -31,7 +31,7 @@ same_length c = c.before.before.before.loop.invariant.same
 returns : tie.Need-returns invariant-loop decreases-loop
 returns c =
     let p = c.before.before.before.loop.invariant in
-    too-deep p (omega arith) (omega (arith, depth-here p))
+    too_deep_lem p (omega arith) (omega (arith, depth_here p))
 
 end-requires : tie.Need-end-requires invariant-loop decreases-loop
 end-requires c κs = record { words = omega arith; few = omega arith }
@@ -51,7 +51,7 @@ slice-read-closes c = omega (arith, end-within c.before)
 add-closes : tie.Need-overflow-add-closes invariant-loop decreases-loop
 add-closes c =
     let h = end-within c.before in
-    omega (arith, closed-le c.before.before.before.before.before.loop.invariant c.before.end.result (omega arith))
+    omega (arith, closed_le c.before.before.before.before.before.loop.invariant c.before.end.result (omega arith))
 
 mul-closes-2 : tie.Need-overflow-mul-closes-2 invariant-loop decreases-loop
 mul-closes-2 c = omega (arith, end-within c.before)
@@ -72,13 +72,13 @@ loop-again : tie.Need-loop-preserved invariant-loop decreases-loop
 loop-again c =
     let l = c.before.before.before.before.before in
     rw c.before.end.ensures.is
-    (scan-more l.loop.invariant l.before.before.before.requires.0 (omega arith) (omega arith) (omega (arith, depth-here l.loop.invariant)))
+    (scan_more l.loop.invariant l.before.before.before.requires.0 (omega arith) (omega arith) (omega (arith, depth_here l.loop.invariant)))
 
 same-length-2 : tie.Need-same-length-2 invariant-loop decreases-loop
 same-length-2 c = c.before.loop.invariant.same
 
 returns-2 : tie.Need-returns-2 invariant-loop decreases-loop
-returns-2 c = first-none (λ k l. c.before.loop.invariant.shallow k (omega arith))
+returns-2 c = first_none (λ k l. c.before.loop.invariant.shallow k (omega arith))
 
 pub scan-spec : {M : Type 1} → statement M
 scan-spec =

@@ -4,19 +4,19 @@ use Prim.Native.Nat.{◌-◌, ◌%◌, ◌<◌}
 use native.Mathlib.Omega.{arith}
 use lib.ListN.{length, drop}
 use borrow.Author.Rules.{rules}
-use Rattle.digest.specs.Digest.{modulus, numberFrom, digest}
-use Rattle.digest.proofs.Remainders.{digit-more, digits-end, digits-begin}
+use Rattle.digest.specs.Digest.{modulus, number_from, digest}
+use Rattle.digest.proofs.Remainders.{digit_more, digits_end, digits_begin}
 use Rattle.digest.proofs.digest.Statement.{statement}
 use Rattle.digest.proofs.digest.Tie as tie
 
 abbrev invariant-loop : tie.invariant-loop
-invariant-loop text remainder₀ i₀ remainder i = (remainder < modulus) × (numberFrom remainder (drop i text) % modulus ≡ digest text)
+invariant-loop text remainder₀ i₀ remainder i = (remainder < modulus) × (number_from remainder (drop i text) % modulus ≡ digest text)
 
 abbrev decreases-loop : tie.decreases-loop
 decreases-loop text remainder₀ i₀ remainder i = length text - i
 
 loop-holds : tie.Need-loop-init invariant-loop decreases-loop
-loop-holds c = (omega arith, digits-begin _)
+loop-holds c = (omega arith, digits_begin _)
 
 mul-remainder : tie.Need-overflow-mul-remainder invariant-loop decreases-loop
 mul-remainder c = omega arith
@@ -40,12 +40,12 @@ loop-again : tie.Need-loop-preserved invariant-loop decreases-loop
 loop-again c =
     let l = c.before.before.before.loop in
     let h = c.before.before.loop-test.true in
-    (omega arith, digit-more _ l.i l.remainder _ h c.wide.ensures ∙ l.invariant.1)
+    (omega arith, digit_more _ l.i l.remainder _ h c.wide.ensures ∙ l.invariant.1)
 
 returns : tie.Need-returns invariant-loop decreases-loop
 returns c =
     let l = c.before.loop in
-    sym (digits-end _ l.i l.remainder c.loop-test.false l.invariant.0) ∙ l.invariant.1
+    sym (digits_end _ l.i l.remainder c.loop-test.false l.invariant.0) ∙ l.invariant.1
 
 pub digest-spec : {M : Type 1} → statement M
 digest-spec =

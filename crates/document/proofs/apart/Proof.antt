@@ -1,6 +1,6 @@
 -- `document::apart` meets its contract: an empty line and a new one, or a space.
 use mathlib.Core.Path.{refl}
-use Rattle.document.specs.Top.{apart-on, apart-off}
+use Rattle.document.specs.Top.{apart_on, apart_off}
 use Rattle.pen.specs.Wrote.{◌⨾◌, wrote_as}
 use borrow.Author.Rules.{rules}
 use Rattle.document.proofs.apart.Statement.{statement}
@@ -19,7 +19,7 @@ same_length : tie.Need-same-length
 same_length c = search rules
 
 returns : tie.Need-returns
-returns c = wrote_as (c.before.before.before.before.before.before.write.ensures ⨾ c.before.before.write-times.ensures) (apart-on _ _ _ c.before.before.before.before.before.before.before.before.before.if1.true)
+returns c = wrote_as (c.before.before.before.before.before.before.write.ensures ⨾ c.before.before.write-times.ensures) (apart_on _ _ _ c.before.before.before.before.before.before.before.before.before.if1.true)
 
 write-byte-requires : tie.Need-write-byte-requires
 write-byte-requires c κs = tt
@@ -28,7 +28,7 @@ same-length-2 : tie.Need-same-length-2
 same-length-2 c = search rules
 
 returns-2 : tie.Need-returns-2
-returns-2 c = wrote_as c.before.before.write_byte.ensures (apart-off _ _ _ c.before.before.before.before.if1.false)
+returns-2 c = wrote_as c.before.before.write_byte.ensures (apart_off _ _ _ c.before.before.before.before.if1.false)
 
 pub apart-spec : {M : Type 1} → statement M
 apart-spec =

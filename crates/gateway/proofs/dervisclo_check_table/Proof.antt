@@ -1,5 +1,5 @@
 -- `gateway::dervisclo_check_table` meets its contract: the answer is that of `check_table::check_table`.
-use Rattle.gateway.specs.Numbers.{told-place}
+use Rattle.gateway.specs.Numbers.{told_place}
 use borrow.Author.Rules.{rules}
 use Rattle.gateway.proofs.dervisclo_check_table.Statement.{statement}
 use Rattle.gateway.proofs.dervisclo_check_table.Tie as tie
@@ -16,7 +16,7 @@ checked-number-requires c κs = search rules
 returns : tie.Need-returns
 returns c =
     let a = c.before.before in
-    told-place a.check-table.result a.check-table.ensures c.checked-number.ensures c.before.checked-place.ensures
+    told_place a.check-table.result a.check-table.ensures c.checked-number.ensures c.before.checked-place.ensures
 
 pub dervisclo-check-table-spec : {M : Type 1} → statement M
 dervisclo-check-table-spec =

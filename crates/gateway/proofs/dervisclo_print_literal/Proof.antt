@@ -1,16 +1,16 @@
 -- `gateway::dervisclo_print_literal` meets its contract: a number that is no switch is refused, and otherwise the answer is that of `literal::print_literal`.
 use mathlib.Core.Path.{refl, sym, ◌∙◌}
-use Rattle.gateway.specs.Numbers.{told-by}
-use Rattle.gateway.specs.Switches.{no-such-breaks, no-such-kind, switches-tell}
+use Rattle.gateway.specs.Numbers.{told_by}
+use Rattle.gateway.specs.Switches.{no_such_breaks, no_such_kind, switches_tell}
 use borrow.Author.Rules.{rules}
 use Rattle.gateway.proofs.dervisclo_print_literal.Statement.{statement}
 use Rattle.gateway.proofs.dervisclo_print_literal.Tie as tie
 
 returns : tie.Need-returns
-returns c = told-by (no-such-breaks _ _ _ _ _ _ c.if1.true) refl refl
+returns c = told_by (no_such_breaks _ _ _ _ _ _ c.if1.true) refl refl
 
 returns-2 : tie.Need-returns-2
-returns-2 c = told-by (no-such-kind _ _ _ _ _ _ c.before.if1.false c.if2.true) refl refl
+returns-2 c = told_by (no_such_kind _ _ _ _ _ _ c.before.if1.false c.if2.true) refl refl
 
 print-literal-requires : tie.Need-print-literal-requires
 print-literal-requires c κs = search rules
@@ -28,7 +28,7 @@ returns-3 : tie.Need-returns-3
 returns-3 c =
     let p = c.before.before.before.before in
     let i = p.before.before in
-    told-by (switches-tell _ _ _ _ _ _ i.before.if1.false i.if2.false ∙ sym p.print-literal.ensures) c.printed-number.ensures c.before.printed-length.ensures
+    told_by (switches_tell _ _ _ _ _ _ i.before.if1.false i.if2.false ∙ sym p.print-literal.ensures) c.printed-number.ensures c.before.printed-length.ensures
 
 pub dervisclo-print-literal-spec : {M : Type 1} → statement M
 dervisclo-print-literal-spec =

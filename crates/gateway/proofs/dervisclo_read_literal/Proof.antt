@@ -1,5 +1,5 @@
 -- `gateway::dervisclo_read_literal` meets its contract: the answer is that of `reader::read_literal`, taken apart.
-use Rattle.gateway.specs.Numbers.{told-refusal, told-value}
+use Rattle.gateway.specs.Numbers.{told_refusal, told_value}
 use borrow.Author.Rules.{rules}
 use Rattle.gateway.proofs.dervisclo_read_literal.Statement.{statement}
 use Rattle.gateway.proofs.dervisclo_read_literal.Tie as tie
@@ -25,7 +25,7 @@ same_length c = search rules
 returns : tie.Need-returns
 returns c =
     let t = c.before.before in
-    told-refusal t.before.before.before.before.read-literal.ensures t.enum_told.given.1 c.reading-number.ensures c.before.reading-length.ensures
+    told_refusal t.before.before.before.before.read-literal.ensures t.enum_told.given.1 c.reading-number.ensures c.before.reading-length.ensures
 
 form-number-requires : tie.Need-form-number-requires
 form-number-requires c κs = search rules
@@ -36,7 +36,7 @@ same-length-2 c = search rules
 returns-2 : tie.Need-returns-2
 returns-2 c =
     let a = c.before.before in
-    told-value a.before.before.before.before.read-literal.ensures a.answer.given.1 c.form-number.ensures
+    told_value a.before.before.before.before.read-literal.ensures a.answer.given.1 c.form-number.ensures
 
 pub dervisclo-read-literal-spec : {M : Type 1} → statement M
 dervisclo-read-literal-spec =

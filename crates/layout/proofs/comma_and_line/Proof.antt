@@ -1,6 +1,6 @@
 -- `layout::comma_and_line` meets its contract: the one after the other.
 use mathlib.Core.Path.{refl}
-use Rattle.layout.specs.Written.{kept-both}
+use Rattle.layout.specs.Written.{kept_both}
 use borrow.Author.Rules.{rules}
 use Rattle.layout.proofs.comma_and_line.Statement.{statement}
 use Rattle.layout.proofs.comma_and_line.Tie as tie
@@ -18,7 +18,7 @@ same_length : tie.Need-same-length
 same_length c = search rules
 
 returns : tie.Need-returns
-returns c = kept-both c.before.before.before.before.before.before.token.ensures c.before.before.new-line-or-space.ensures
+returns c = kept_both c.before.before.before.before.before.before.token.ensures c.before.before.new-line-or-space.ensures
 
 pub comma-and-line-spec : {M : Type 1} → statement M
 comma-and-line-spec =

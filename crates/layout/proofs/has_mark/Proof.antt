@@ -1,7 +1,7 @@
 -- `layout::has_mark` meets its contract: what is left to look at tells, since no child that was passed has the mark.
-use Rattle.layout.specs.Marks.{markAmong, mark-none, mark-here, mark-later, is-description, is-directive, is-neither}
-use Rattle.layout.specs.Jobs.{Ranged, ranged-node, ranged-on, ranged-less}
-use Rattle.meaning.specs.Layout.{isMark}
+use Rattle.layout.specs.Marks.{mark_among, mark_none, mark_here, mark_later, is_description, is_directive, is_neither}
+use Rattle.layout.specs.Jobs.{Ranged, ranged_node, ranged_on, ranged_less}
+use Rattle.meaning.specs.Layout.{is_mark}
 use native.Mathlib.Omega.{arith}
 use Prim.Native.Nat.{ℕ, ◌-◌}
 use mathlib.Core.Path.{◌≡◌, refl, sym, ◌∙◌, subst}
@@ -9,7 +9,7 @@ use Rattle.layout.proofs.has_mark.Statement.{statement}
 use Rattle.layout.proofs.has_mark.Tie as tie
 
 abbrev invariant-loop : tie.invariant-loop
-invariant-loop words pool to i₀ i = Ranged words pool i.0 to.0 × (markAmong words pool i.0 to.0 ≡ markAmong words pool i₀.0 to.0)
+invariant-loop words pool to i₀ i = Ranged words pool i.0 to.0 × (mark_among words pool i.0 to.0 ≡ mark_among words pool i₀.0 to.0)
 
 abbrev decreases-loop : tie.decreases-loop
 decreases-loop words pool to i₀ i = to.0 - i.0
@@ -18,25 +18,25 @@ loop-holds : tie.Need-loop-init invariant-loop decreases-loop
 loop-holds c = (c.before.before.requires, refl)
 
 kind-requires : tie.Need-kind-requires invariant-loop decreases-loop
-kind-requires c κs = ranged-node c.before.before.before.loop.invariant.0 c.if1.true
+kind-requires c κs = ranged_node c.before.before.before.loop.invariant.0 c.if1.true
 
 returns : tie.Need-returns invariant-loop decreases-loop
-returns c = mark-here c.before.before.before.before.before.loop.invariant.0 c.before.before.if1.true (subst (λ (k : ℕ). isMark k ≡ _) c.before.kind.ensures.is (is-description _ c.if2.true)) ∙ c.before.before.before.before.before.loop.invariant.1
+returns c = mark_here c.before.before.before.before.before.loop.invariant.0 c.before.before.if1.true (subst (λ (k : ℕ). is_mark k ≡ _) c.before.kind.ensures.is (is_description _ c.if2.true)) ∙ c.before.before.before.before.before.loop.invariant.1
 
 returns-2 : tie.Need-returns-2 invariant-loop decreases-loop
-returns-2 c = mark-here c.before.before.before.before.before.before.loop.invariant.0 c.before.before.before.if1.true (subst (λ (k : ℕ). isMark k ≡ _) c.before.before.kind.ensures.is (is-directive _ c.before.if2.false c.if3.true)) ∙ c.before.before.before.before.before.before.loop.invariant.1
+returns-2 c = mark_here c.before.before.before.before.before.before.loop.invariant.0 c.before.before.before.if1.true (subst (λ (k : ℕ). is_mark k ≡ _) c.before.before.kind.ensures.is (is_directive _ c.before.if2.false c.if3.true)) ∙ c.before.before.before.before.before.before.loop.invariant.1
 
 end-requires : tie.Need-end-requires invariant-loop decreases-loop
-end-requires c κs = ranged-node c.before.before.before.before.before.before.loop.invariant.0 c.before.before.before.if1.true
+end-requires c κs = ranged_node c.before.before.before.before.before.before.loop.invariant.0 c.before.before.before.if1.true
 
 loop-less : tie.Need-loop-smaller invariant-loop decreases-loop
-loop-less c = ranged-less c.before.before.before.before.before.before.before.loop.invariant.0 c.before.before.before.before.if1.true c.end.ensures.is
+loop-less c = ranged_less c.before.before.before.before.before.before.before.loop.invariant.0 c.before.before.before.before.if1.true c.end.ensures.is
 
 loop-again : tie.Need-loop-preserved invariant-loop decreases-loop
-loop-again c = (ranged-on c.before.before.before.before.before.before.before.loop.invariant.0 c.before.before.before.before.if1.true c.end.ensures.is, mark-later c.before.before.before.before.before.before.before.loop.invariant.0 c.before.before.before.before.if1.true (subst (λ (k : ℕ). isMark k ≡ _) c.before.before.before.kind.ensures.is (is-neither _ c.before.before.if2.false c.before.if3.false)) c.end.ensures.is ∙ c.before.before.before.before.before.before.before.loop.invariant.1)
+loop-again c = (ranged_on c.before.before.before.before.before.before.before.loop.invariant.0 c.before.before.before.before.if1.true c.end.ensures.is, mark_later c.before.before.before.before.before.before.before.loop.invariant.0 c.before.before.before.before.if1.true (subst (λ (k : ℕ). is_mark k ≡ _) c.before.before.before.kind.ensures.is (is_neither _ c.before.before.if2.false c.before.if3.false)) c.end.ensures.is ∙ c.before.before.before.before.before.before.before.loop.invariant.1)
 
 returns-3 : tie.Need-returns-3 invariant-loop decreases-loop
-returns-3 c = sym (mark-none _ _ c.if1.false) ∙ c.before.before.before.loop.invariant.1
+returns-3 c = sym (mark_none _ _ c.if1.false) ∙ c.before.before.before.loop.invariant.1
 
 pub has-mark-spec : {M : Type 1} → statement M
 has-mark-spec =

@@ -1,5 +1,5 @@
 -- `layout::is_in` meets its contract: a test for each class.
-use Rattle.layout.specs.Classes.{kind-tells}
+use Rattle.layout.specs.Classes.{kind_tells}
 use borrow.Author.Rules.{rules}
 use Rattle.layout.proofs.is_in.Statement.{statement}
 use Rattle.layout.proofs.is_in.Tie as tie
@@ -20,7 +20,7 @@ is-value-requires : tie.Need-is-value-requires
 is-value-requires c κs = tt
 
 returns : tie.Need-returns
-returns c = λ v. rw c.before.class.given.1 (kind-tells _ v _)
+returns c = λ v. rw c.before.class.given.1 (kind_tells _ v _)
 
 returns-2 : tie.Need-returns-2
 returns-2 c = λ v. rw c.before.enum_told.given.1 (c.is-selection.ensures v)

@@ -1,5 +1,5 @@
 -- `layout::name` meets its contract: the text is the part of the pool that the node names.
-use Rattle.layout.specs.Written.{kept-as}
+use Rattle.layout.specs.Written.{kept_as}
 use borrow.Author.Rules.{rules}
 use Rattle.layout.proofs.name.Statement.{statement}
 use Rattle.layout.proofs.name.Tie as tie
@@ -14,7 +14,7 @@ same_length : tie.Need-same-length
 same_length c = search rules
 
 returns : tie.Need-returns
-returns c = kept-as c.before.before.before.text.ensures c.before.before.token.ensures
+returns c = kept_as c.before.before.before.text.ensures c.before.before.token.ensures
 
 pub name-spec : {M : Type 1} → statement M
 name-spec = tie.close (tie.spec text-requires token-requires same_length returns)

@@ -1,6 +1,6 @@
 -- `layout::new_line_or_space` meets its contract: a space with breaks off, else a new line.
 use mathlib.Core.Path.{refl}
-use Rattle.layout.specs.Written.{kept-as, space-off, space-on}
+use Rattle.layout.specs.Written.{kept_as, space_off, space_on}
 use borrow.Author.Rules.{rules}
 use Rattle.layout.proofs.new_line_or_space.Statement.{statement}
 use Rattle.layout.proofs.new_line_or_space.Tie as tie
@@ -12,7 +12,7 @@ same_length : tie.Need-same-length
 same_length c = search rules
 
 returns : tie.Need-returns
-returns c = kept-as (space-on _ _ _ c.before.before.before.before.if1.true) c.before.before.new_line.ensures
+returns c = kept_as (space_on _ _ _ c.before.before.before.before.if1.true) c.before.before.new_line.ensures
 
 slice-aggregate-token : tie.Need-slice-aggregate-token
 slice-aggregate-token c = refl
@@ -24,7 +24,7 @@ same-length-2 : tie.Need-same-length-2
 same-length-2 c = search rules
 
 returns-2 : tie.Need-returns-2
-returns-2 c = kept-as (space-off _ _ _ c.before.before.before.before.before.if1.false) c.before.before.token.ensures
+returns-2 c = kept_as (space_off _ _ _ c.before.before.before.before.before.if1.false) c.before.before.token.ensures
 
 pub new-line-or-space-spec : {M : Type 1} → statement M
 new-line-or-space-spec =

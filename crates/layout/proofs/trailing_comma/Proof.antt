@@ -1,6 +1,6 @@
 -- `layout::trailing_comma` meets its contract: nothing with breaks off.
 use mathlib.Core.Path.{refl}
-use Rattle.layout.specs.Written.{kept-none, kept-as, comma-off, comma-on}
+use Rattle.layout.specs.Written.{kept_none, kept_as, comma_off, comma_on}
 use native.Mathlib.Omega.{arith}
 use borrow.Author.Rules.{rules}
 use Rattle.layout.proofs.trailing_comma.Statement.{statement}
@@ -16,10 +16,10 @@ same_length : tie.Need-same-length
 same_length c = search rules
 
 returns : tie.Need-returns
-returns c = kept-as (comma-on _ c.before.before.before.before.before.if1.true) c.before.before.token.ensures
+returns c = kept_as (comma_on _ c.before.before.before.before.before.if1.true) c.before.before.token.ensures
 
 returns-2 : tie.Need-returns-2
-returns-2 c = kept-as (comma-off _ c.if1.false) (kept-none (record { place = omega arith; size = omega arith }))
+returns-2 c = kept_as (comma_off _ c.if1.false) (kept_none (record { place = omega arith; size = omega arith }))
 
 pub trailing-comma-spec : {M : Type 1} → statement M
 trailing-comma-spec =

@@ -1,9 +1,9 @@
 -- `leaves::alias` meets its contract: the child's name and a colon, or no child and nothing.
 use Rattle.leaves.specs.Leaves.{aliased}
-use Rattle.layout.specs.Did.{no-child}
-use Rattle.layout.specs.Written.{kept-none, kept-in-table}
-use Rattle.layout.specs.Runs.{next-is-there}
-use Rattle.layout.specs.Jobs.{ranged-within, ranged-text, ranged-node}
+use Rattle.layout.specs.Did.{no_child}
+use Rattle.layout.specs.Written.{kept_none, kept_in_table}
+use Rattle.layout.specs.Runs.{next_is_there}
+use Rattle.layout.specs.Jobs.{ranged_within, ranged_text, ranged_node}
 use mathlib.Core.List.{◌++◌}
 use Rattle.meaning.specs.Rules.{child, token, sp}
 use Rattle.meaning.specs.Children.{a}
@@ -15,13 +15,13 @@ use Rattle.leaves.proofs.alias.Statement.{statement}
 use Rattle.leaves.proofs.alias.Tie as tie
 
 is-next-requires : tie.Need-is-next-requires
-is-next-requires c κs = ranged-within c.before.before.before.before.requires
+is-next-requires c κs = ranged_within c.before.before.before.before.requires
 
 name-requires : tie.Need-name-requires
-name-requires c κs = ranged-text c.before.before.before.before.before.before.before.requires (next-is-there _ _ _ _ (sym c.before.before.is-next.ensures ∙ c.before.if1.true))
+name-requires c κs = ranged_text c.before.before.before.before.before.before.before.requires (next_is_there _ _ _ _ (sym c.before.before.is-next.ensures ∙ c.before.if1.true))
 
 past-requires : tie.Need-past-requires
-past-requires c κs = kept-in-table _ c.before.before.name.ensures (ranged-node c.before.before.before.before.before.before.before.before.before.before.requires (next-is-there _ _ _ _ (sym c.before.before.before.before.before.is-next.ensures ∙ c.before.before.before.before.if1.true)))
+past-requires c κs = kept_in_table _ c.before.before.name.ensures (ranged_node c.before.before.before.before.before.before.before.before.before.before.requires (next_is_there _ _ _ _ (sym c.before.before.before.before.before.is-next.ensures ∙ c.before.before.before.before.if1.true)))
 
 slice-aggregate-token : tie.Need-slice-aggregate-token
 slice-aggregate-token c = refl
@@ -36,7 +36,7 @@ returns : tie.Need-returns
 returns c = λ s n. aliased c.before.before.before.before.before.before.before.before.before.before.before.before.before.before.before.before.requires (sym c.before.before.before.before.before.before.before.before.before.before.before.is-next.ensures ∙ c.before.before.before.before.before.before.before.before.before.before.if1.true) c.before.before.before.before.before.before.before.before.name.ensures c.before.before.before.before.before.past.ensures c.before.before.token.ensures
 
 returns-2 : tie.Need-returns-2
-returns-2 c = λ s n. no-child (child (a Kind.alias) ++ token ":" ++ sp) c.before.before.before.before.before.before.requires (a Kind.alias) refl (sym c.before.is-next.ensures ∙ c.if1.false) (kept-none (record { place = omega arith; size = omega arith }))
+returns-2 c = λ s n. no_child (child (a Kind.alias) ++ token ":" ++ sp) c.before.before.before.before.before.before.requires (a Kind.alias) refl (sym c.before.is-next.ensures ∙ c.if1.false) (kept_none (record { place = omega arith; size = omega arith }))
 
 pub alias-spec : {M : Type 1} → statement M
 alias-spec =

@@ -1,17 +1,17 @@
 -- `leaves::described` meets its contract: the child's literal and a new line.
 use borrow.Author.Rules.{rules}
 use Rattle.leaves.specs.Leaves.{described}
-use Rattle.layout.specs.Written.{kept-in-table}
-use Rattle.layout.specs.Runs.{next-is-there}
-use Rattle.layout.specs.Jobs.{ranged-text, ranged-node}
+use Rattle.layout.specs.Written.{kept_in_table}
+use Rattle.layout.specs.Runs.{next_is_there}
+use Rattle.layout.specs.Jobs.{ranged_text, ranged_node}
 use Rattle.leaves.proofs.described.Statement.{statement}
 use Rattle.leaves.proofs.described.Tie as tie
 
 string-value-requires : tie.Need-string-value-requires
-string-value-requires c κs = (ranged-text c.before.before.before.before.before.before.requires.0 (next-is-there _ _ _ _ c.before.before.before.before.before.before.requires.2), c.before.before.before.before.before.before.requires.1)
+string-value-requires c κs = (ranged_text c.before.before.before.before.before.before.requires.0 (next_is_there _ _ _ _ c.before.before.before.before.before.before.requires.2), c.before.before.before.before.before.before.requires.1)
 
 past-requires : tie.Need-past-requires
-past-requires c κs = kept-in-table _ c.before.before.string-value.ensures (ranged-node c.before.before.before.before.before.before.before.before.before.requires.0 (next-is-there _ _ _ _ c.before.before.before.before.before.before.before.before.before.requires.2))
+past-requires c κs = kept_in_table _ c.before.before.string-value.ensures (ranged_node c.before.before.before.before.before.before.before.before.before.requires.0 (next_is_there _ _ _ _ c.before.before.before.before.before.before.before.before.before.requires.2))
 
 new-line-or-space-requires : tie.Need-new-line-or-space-requires
 new-line-or-space-requires c κs = tt

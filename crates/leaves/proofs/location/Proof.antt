@@ -1,8 +1,8 @@
-use Rattle.base.specs.Arms.{past-from}
+use Rattle.base.specs.Arms.{past_from}
 -- `leaves::location` meets its contract: a word for each variant.
 use mathlib.Core.Path.{refl}
-use Rattle.layout.specs.Did.{did-chosen, did-none-chosen}
-use Rattle.layout.specs.Written.{kept-none}
+use Rattle.layout.specs.Did.{did_chosen, did_none_chosen}
+use Rattle.layout.specs.Written.{kept_none}
 use native.Mathlib.Omega.{arith}
 use borrow.Author.Rules.{rules}
 use Rattle.leaves.proofs.location.Statement.{statement}
@@ -129,118 +129,118 @@ same_length : tie.Need-same-length
 same_length c = search rules
 
 returns : tie.Need-returns
-returns c = λ p s e. did-chosen _ c.before.before.before.before.before.before.variant.ensures.is 0 c.before.before.before.before.before.match.keys1 c.before.before.token.ensures
+returns c = λ p s e. did_chosen _ c.before.before.before.before.before.before.variant.ensures.is 0 c.before.before.before.before.before.match.keys1 c.before.before.token.ensures
 
 same-length-2 : tie.Need-same-length-2
 same-length-2 c = search rules
 
 returns-2 : tie.Need-returns-2
-returns-2 c = λ p s e. did-chosen _ c.before.before.before.before.before.before.variant.ensures.is 1 c.before.before.before.before.before.match.keys2 c.before.before.token2.ensures
+returns-2 c = λ p s e. did_chosen _ c.before.before.before.before.before.before.variant.ensures.is 1 c.before.before.before.before.before.match.keys2 c.before.before.token2.ensures
 
 same-length-3 : tie.Need-same-length-3
 same-length-3 c = search rules
 
 returns-3 : tie.Need-returns-3
-returns-3 c = λ p s e. did-chosen _ c.before.before.before.before.before.before.variant.ensures.is 2 c.before.before.before.before.before.match.keys3 c.before.before.token3.ensures
+returns-3 c = λ p s e. did_chosen _ c.before.before.before.before.before.before.variant.ensures.is 2 c.before.before.before.before.before.match.keys3 c.before.before.token3.ensures
 
 same-length-4 : tie.Need-same-length-4
 same-length-4 c = search rules
 
 returns-4 : tie.Need-returns-4
-returns-4 c = λ p s e. did-chosen _ c.before.before.before.before.before.before.variant.ensures.is 3 c.before.before.before.before.before.match.keys4 c.before.before.token4.ensures
+returns-4 c = λ p s e. did_chosen _ c.before.before.before.before.before.before.variant.ensures.is 3 c.before.before.before.before.before.match.keys4 c.before.before.token4.ensures
 
 same-length-5 : tie.Need-same-length-5
 same-length-5 c = search rules
 
 returns-5 : tie.Need-returns-5
-returns-5 c = λ p s e. did-chosen _ c.before.before.before.before.before.before.variant.ensures.is 4 c.before.before.before.before.before.match.keys5 c.before.before.token5.ensures
+returns-5 c = λ p s e. did_chosen _ c.before.before.before.before.before.before.variant.ensures.is 4 c.before.before.before.before.before.match.keys5 c.before.before.token5.ensures
 
 same-length-6 : tie.Need-same-length-6
 same-length-6 c = search rules
 
 returns-6 : tie.Need-returns-6
-returns-6 c = λ p s e. did-chosen _ c.before.before.before.before.before.before.variant.ensures.is 5 c.before.before.before.before.before.match.keys6 c.before.before.token6.ensures
+returns-6 c = λ p s e. did_chosen _ c.before.before.before.before.before.before.variant.ensures.is 5 c.before.before.before.before.before.match.keys6 c.before.before.token6.ensures
 
 same-length-7 : tie.Need-same-length-7
 same-length-7 c = search rules
 
 returns-7 : tie.Need-returns-7
-returns-7 c = λ p s e. did-chosen _ c.before.before.before.before.before.before.variant.ensures.is 6 c.before.before.before.before.before.match.keys7 c.before.before.token7.ensures
+returns-7 c = λ p s e. did_chosen _ c.before.before.before.before.before.before.variant.ensures.is 6 c.before.before.before.before.before.match.keys7 c.before.before.token7.ensures
 
 same-length-8 : tie.Need-same-length-8
 same-length-8 c = search rules
 
 returns-8 : tie.Need-returns-8
-returns-8 c = λ p s e. did-chosen _ c.before.before.before.before.before.before.variant.ensures.is 7 c.before.before.before.before.before.match.keys8 c.before.before.token8.ensures
+returns-8 c = λ p s e. did_chosen _ c.before.before.before.before.before.before.variant.ensures.is 7 c.before.before.before.before.before.match.keys8 c.before.before.token8.ensures
 
 same-length-9 : tie.Need-same-length-9
 same-length-9 c = search rules
 
 returns-9 : tie.Need-returns-9
-returns-9 c = λ p s e. did-chosen _ c.before.before.before.before.before.before.variant.ensures.is 8 c.before.before.before.before.before.match.keys9 c.before.before.token9.ensures
+returns-9 c = λ p s e. did_chosen _ c.before.before.before.before.before.before.variant.ensures.is 8 c.before.before.before.before.before.match.keys9 c.before.before.token9.ensures
 
 same-length-10 : tie.Need-same-length-10
 same-length-10 c = search rules
 
 returns-10 : tie.Need-returns-10
-returns-10 c = λ p s e. did-chosen _ c.before.before.before.before.before.before.variant.ensures.is 9 c.before.before.before.before.before.match.keys10 c.before.before.token10.ensures
+returns-10 c = λ p s e. did_chosen _ c.before.before.before.before.before.before.variant.ensures.is 9 c.before.before.before.before.before.match.keys10 c.before.before.token10.ensures
 
 same-length-11 : tie.Need-same-length-11
 same-length-11 c = search rules
 
 returns-11 : tie.Need-returns-11
-returns-11 c = λ p s e. did-chosen _ c.before.before.before.before.before.before.variant.ensures.is 10 c.before.before.before.before.before.match.keys11 c.before.before.token11.ensures
+returns-11 c = λ p s e. did_chosen _ c.before.before.before.before.before.before.variant.ensures.is 10 c.before.before.before.before.before.match.keys11 c.before.before.token11.ensures
 
 same-length-12 : tie.Need-same-length-12
 same-length-12 c = search rules
 
 returns-12 : tie.Need-returns-12
-returns-12 c = λ p s e. did-chosen _ c.before.before.before.before.before.before.variant.ensures.is 11 c.before.before.before.before.before.match.keys12 c.before.before.token12.ensures
+returns-12 c = λ p s e. did_chosen _ c.before.before.before.before.before.before.variant.ensures.is 11 c.before.before.before.before.before.match.keys12 c.before.before.token12.ensures
 
 same-length-13 : tie.Need-same-length-13
 same-length-13 c = search rules
 
 returns-13 : tie.Need-returns-13
-returns-13 c = λ p s e. did-chosen _ c.before.before.before.before.before.before.variant.ensures.is 12 c.before.before.before.before.before.match.keys13 c.before.before.token13.ensures
+returns-13 c = λ p s e. did_chosen _ c.before.before.before.before.before.before.variant.ensures.is 12 c.before.before.before.before.before.match.keys13 c.before.before.token13.ensures
 
 same-length-14 : tie.Need-same-length-14
 same-length-14 c = search rules
 
 returns-14 : tie.Need-returns-14
-returns-14 c = λ p s e. did-chosen _ c.before.before.before.before.before.before.variant.ensures.is 13 c.before.before.before.before.before.match.keys14 c.before.before.token14.ensures
+returns-14 c = λ p s e. did_chosen _ c.before.before.before.before.before.before.variant.ensures.is 13 c.before.before.before.before.before.match.keys14 c.before.before.token14.ensures
 
 same-length-15 : tie.Need-same-length-15
 same-length-15 c = search rules
 
 returns-15 : tie.Need-returns-15
-returns-15 c = λ p s e. did-chosen _ c.before.before.before.before.before.before.variant.ensures.is 14 c.before.before.before.before.before.match.keys15 c.before.before.token15.ensures
+returns-15 c = λ p s e. did_chosen _ c.before.before.before.before.before.before.variant.ensures.is 14 c.before.before.before.before.before.match.keys15 c.before.before.token15.ensures
 
 same-length-16 : tie.Need-same-length-16
 same-length-16 c = search rules
 
 returns-16 : tie.Need-returns-16
-returns-16 c = λ p s e. did-chosen _ c.before.before.before.before.before.before.variant.ensures.is 15 c.before.before.before.before.before.match.keys16 c.before.before.token16.ensures
+returns-16 c = λ p s e. did_chosen _ c.before.before.before.before.before.before.variant.ensures.is 15 c.before.before.before.before.before.match.keys16 c.before.before.token16.ensures
 
 same-length-17 : tie.Need-same-length-17
 same-length-17 c = search rules
 
 returns-17 : tie.Need-returns-17
-returns-17 c = λ p s e. did-chosen _ c.before.before.before.before.before.before.variant.ensures.is 16 c.before.before.before.before.before.match.keys17 c.before.before.token17.ensures
+returns-17 c = λ p s e. did_chosen _ c.before.before.before.before.before.before.variant.ensures.is 16 c.before.before.before.before.before.match.keys17 c.before.before.token17.ensures
 
 same-length-18 : tie.Need-same-length-18
 same-length-18 c = search rules
 
 returns-18 : tie.Need-returns-18
-returns-18 c = λ p s e. did-chosen _ c.before.before.before.before.before.before.variant.ensures.is 17 c.before.before.before.before.before.match.keys18 c.before.before.token18.ensures
+returns-18 c = λ p s e. did_chosen _ c.before.before.before.before.before.before.variant.ensures.is 17 c.before.before.before.before.before.match.keys18 c.before.before.token18.ensures
 
 same-length-19 : tie.Need-same-length-19
 same-length-19 c = search rules
 
 returns-19 : tie.Need-returns-19
-returns-19 c = λ p s e. did-chosen _ c.before.before.before.before.before.before.variant.ensures.is 18 c.before.before.before.before.before.match.keys19 c.before.before.token19.ensures
+returns-19 c = λ p s e. did_chosen _ c.before.before.before.before.before.before.variant.ensures.is 18 c.before.before.before.before.before.match.keys19 c.before.before.token19.ensures
 
 returns-20 : tie.Need-returns-20
-returns-20 c = λ p s e. did-none-chosen _ c.before.variant.ensures.is (past-from 0 19 _ (omega arith) c.match.rest) (kept-none (record { place = omega arith; size = omega arith }))
+returns-20 c = λ p s e. did_none_chosen _ c.before.variant.ensures.is (past_from 0 19 _ (omega arith) c.match.rest) (kept_none (record { place = omega arith; size = omega arith }))
 
 pub location-spec : {M : Type 1} → statement M
 location-spec =

@@ -1,6 +1,6 @@
 -- `leaves::root_operation` meets its contract: the parts of its rule.
-use Rattle.layout.specs.Did.{◌⨾◌, did-tokens, did-name}
-use Rattle.meaning.specs.Rules.{ruleOf, token, sp}
+use Rattle.layout.specs.Did.{◌⨾◌, did_tokens, did_name}
+use Rattle.meaning.specs.Rules.{rule_of, token, sp}
 use mathlib.Core.List.{◌++◌}
 use mathlib.Core.Path.{refl}
 use borrow.Author.Rules.{rules}
@@ -23,8 +23,8 @@ same_length : tie.Need-same-length
 same_length c = search rules
 
 returns : tie.Need-returns
-unfolding ruleOf
-returns c = λ s e. c.before.before.before.before.before.before.before.before.before.before.before.operation-type.ensures _ s e ⨾ did-tokens (token ":" ++ sp) refl c.before.before.before.before.before.before.token.ensures ⨾ did-name c.before.before.name.ensures
+unfolding rule_of
+returns c = λ s e. c.before.before.before.before.before.before.before.before.before.before.before.operation-type.ensures _ s e ⨾ did_tokens (token ":" ++ sp) refl c.before.before.before.before.before.before.token.ensures ⨾ did_name c.before.before.name.ensures
 
 pub root-operation-spec : {M : Type 1} → statement M
 root-operation-spec =

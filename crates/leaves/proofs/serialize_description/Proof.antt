@@ -1,9 +1,9 @@
 -- `leaves::serialize_description` meets its contract: no child is next, or it is printed.
 use borrow.Author.Rules.{rules}
-use Rattle.layout.specs.Did.{no-child}
-use Rattle.layout.specs.Written.{kept-none}
-use Rattle.layout.specs.Jobs.{ranged-within}
-use Rattle.meaning.specs.Rules.{child, newLineOrSpace}
+use Rattle.layout.specs.Did.{no_child}
+use Rattle.layout.specs.Written.{kept_none}
+use Rattle.layout.specs.Jobs.{ranged_within}
+use Rattle.meaning.specs.Rules.{child, new_line_or_space}
 use Rattle.meaning.specs.Children.{a}
 use Rattle.meaning.specs.Kind
 use native.Mathlib.Omega.{arith}
@@ -13,7 +13,7 @@ use Rattle.leaves.proofs.serialize_description.Statement.{statement}
 use Rattle.leaves.proofs.serialize_description.Tie as tie
 
 is-next-requires : tie.Need-is-next-requires
-is-next-requires c κs = ranged-within c.before.before.before.before.requires.0
+is-next-requires c κs = ranged_within c.before.before.before.before.requires.0
 
 described-requires : tie.Need-described-requires
 described-requires c κs = (c.before.before.before.before.before.before.before.requires.0, c.before.before.before.before.before.before.before.requires.1, sym c.before.before.is-next.ensures ∙ c.before.if1.true)
@@ -25,7 +25,7 @@ returns : tie.Need-returns
 returns c = c.before.before.described.ensures
 
 returns-2 : tie.Need-returns-2
-returns-2 c = λ n. no-child (child (a Kind.description) ++ newLineOrSpace ∷ []) c.before.before.before.before.before.before.requires.0 (a Kind.description) refl (sym c.before.is-next.ensures ∙ c.if1.false) (kept-none (record { place = omega arith; size = omega arith }))
+returns-2 c = λ n. no_child (child (a Kind.description) ++ new_line_or_space ∷ []) c.before.before.before.before.before.before.requires.0 (a Kind.description) refl (sym c.before.is-next.ensures ∙ c.if1.false) (kept_none (record { place = omega arith; size = omega arith }))
 
 pub serialize-description-spec : {M : Type 1} → statement M
 serialize-description-spec =

@@ -1,6 +1,6 @@
 -- `leaves::variable_value` meets its contract: the parts of its rule.
-use Rattle.layout.specs.Did.{◌⨾◌, did-tokens, did-name}
-use Rattle.meaning.specs.Rules.{ruleOf, token}
+use Rattle.layout.specs.Did.{◌⨾◌, did_tokens, did_name}
+use Rattle.meaning.specs.Rules.{rule_of, token}
 use mathlib.Core.Path.{refl}
 use borrow.Author.Rules.{rules}
 use Rattle.leaves.proofs.variable_value.Statement.{statement}
@@ -19,8 +19,8 @@ same_length : tie.Need-same-length
 same_length c = search rules
 
 returns : tie.Need-returns
-unfolding ruleOf
-returns c = λ s e. did-tokens (token "$") refl c.before.before.before.before.before.before.token.ensures ⨾ did-name c.before.before.name.ensures
+unfolding rule_of
+returns c = λ s e. did_tokens (token "$") refl c.before.before.before.before.before.before.token.ensures ⨾ did_name c.before.before.name.ensures
 
 pub variable-value-spec : {M : Type 1} → statement M
 variable-value-spec =

@@ -1,5 +1,5 @@
 -- `literal::serialize_string_value` meets its contract: the form that is chosen is the one that the literal takes.
-use Rattle.literal.specs.Chosen.{chosen-is-literal}
+use Rattle.literal.specs.Chosen.{chosen_is_literal}
 use Rattle.pen.specs.Wrote.{wrote_as}
 use borrow.Author.Rules.{rules}
 use Rattle.literal.proofs.serialize_string_value.Statement.{statement}
@@ -17,7 +17,7 @@ same_length c = search rules
 returns : tie.Need-returns
 returns c =
     let w = c.before.before in
-    wrote_as w.write-chosen.ensures (chosen-is-literal _ _ _ _ _ _ w.before.before.takes-block.ensures)
+    wrote_as w.write-chosen.ensures (chosen_is_literal _ _ _ _ _ _ w.before.before.takes-block.ensures)
 
 pub serialize-string-value-spec : {M : Type 1} → statement M
 serialize-string-value-spec =

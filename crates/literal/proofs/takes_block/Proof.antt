@@ -1,11 +1,11 @@
 -- `literal::takes_block` meets its contract: each test of the rule, in order.
-use Rattle.literal.specs.Chosen.{no-breaks, described, no-feed, some-feed}
+use Rattle.literal.specs.Chosen.{no_breaks, described, no_feed, some_feed}
 use borrow.Author.Rules.{rules}
 use Rattle.literal.proofs.takes_block.Statement.{statement}
 use Rattle.literal.proofs.takes_block.Tie as tie
 
 returns : tie.Need-returns
-returns c = no-breaks c.before.before.args.breaks _ c.if1.true
+returns c = no_breaks c.before.before.args.breaks _ c.if1.true
 
 can-be-block-string-requires : tie.Need-can-be-block-string-requires
 can-be-block-string-requires c κs = search rules
@@ -22,7 +22,7 @@ returns-3 : tie.Need-returns-3
 returns-3 c =
     let n = c.before in
     let a = n.before.before.before.before.args in
-    no-feed a.breaks a.description _ _ _ n.before.before.if1.false n.before.if2.false n.contains-newline.ensures c.if3.true
+    no_feed a.breaks a.description _ _ _ n.before.before.if1.false n.before.if2.false n.contains-newline.ensures c.if3.true
 
 can-be-block-string-requires-2 : tie.Need-can-be-block-string-requires-2
 can-be-block-string-requires-2 c κs = search rules
@@ -31,7 +31,7 @@ returns-4 : tie.Need-returns-4
 returns-4 c =
     let n = c.before.before in
     let a = n.before.before.before.before.args in
-    some-feed a.breaks a.description _ _ _ _ n.before.before.if1.false n.before.if2.false n.contains-newline.ensures c.before.if3.false c.can-be-block-string2.ensures
+    some_feed a.breaks a.description _ _ _ _ n.before.before.if1.false n.before.if2.false n.contains-newline.ensures c.before.if3.false c.can-be-block-string2.ensures
 
 pub takes-block-spec : {M : Type 1} → statement M
 takes-block-spec =

@@ -1,5 +1,5 @@
 -- `literal::write_chosen` meets its contract: one writer for each form.
-use Rattle.literal.specs.Chosen.{chosen-block, chosen-quoted}
+use Rattle.literal.specs.Chosen.{chosen_block, chosen_quoted}
 use Rattle.pen.specs.Wrote.{wrote_as}
 use Rattle.pen.specs.Wrote.{wrote_as}
 use borrow.Author.Rules.{rules}
@@ -13,7 +13,7 @@ same_length : tie.Need-same-length
 same_length c = search rules
 
 returns : tie.Need-returns
-returns c = wrote_as c.before.before.write-block-string.ensures (chosen-block _ _ _ c.before.before.before.before.if1.true)
+returns c = wrote_as c.before.before.write-block-string.ensures (chosen_block _ _ _ c.before.before.before.before.if1.true)
 
 write-quoted-requires : tie.Need-write-quoted-requires
 write-quoted-requires c κs = search rules
@@ -22,7 +22,7 @@ same-length-2 : tie.Need-same-length-2
 same-length-2 c = search rules
 
 returns-2 : tie.Need-returns-2
-returns-2 c = wrote_as c.before.before.write-quoted.ensures (chosen-quoted _ _ _ c.before.before.before.before.if1.false)
+returns-2 c = wrote_as c.before.before.write-quoted.ensures (chosen_quoted _ _ _ c.before.before.before.before.if1.false)
 
 pub write-chosen-spec : {M : Type 1} → statement M
 write-chosen-spec =

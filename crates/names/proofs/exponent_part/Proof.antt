@@ -3,7 +3,7 @@ use mathlib.Core.Path.{sym, ◌∙◌}
 use native.Mathlib.Omega.{arith}
 use lib.Seq.{drop-drop}
 use borrow.Author.Rules.{rules}
-use Rattle.names.proofs.Numbers.{stands-within, exponent-by-letter}
+use Rattle.names.proofs.Numbers.{stands_within, exponent_by_letter}
 use Rattle.names.proofs.exponent_part.Statement.{statement}
 use Rattle.names.proofs.exponent_part.Tie as tie
 
@@ -13,14 +13,14 @@ stands-requires c κs = search rules
 add-signed-digits : tie.Need-overflow-add-signed-digits
 add-signed-digits c =
     let a = c.before.before.before.args in
-    omega (arith, stands-within 0x65 a.s.now a.i (sym c.before.stands.ensures ∙ c.if1.true))
+    omega (arith, stands_within 0x65 a.s.now a.i (sym c.before.stands.ensures ∙ c.if1.true))
 
 signed-digits-requires : tie.Need-signed-digits-requires
 signed-digits-requires c κs = search rules
 
 returns : tie.Need-returns
 returns c =
-    rw (exponent-by-letter, ← c.before.before.stands.ensures, c.before.if1.true, drop-drop)
+    rw (exponent_by_letter, ← c.before.before.stands.ensures, c.before.if1.true, drop-drop)
     c.signed-digits.ensures
 
 stands-requires-2 : tie.Need-stands-requires-2
@@ -29,7 +29,7 @@ stands-requires-2 c κs = search rules
 add-signed-digits-2 : tie.Need-overflow-add-signed-digits-2
 add-signed-digits-2 c =
     let a = c.before.before.before.before.before.args in
-    omega (arith, stands-within 0x45 a.s.now a.i (sym c.before.stands2.ensures ∙ c.if2.true))
+    omega (arith, stands_within 0x45 a.s.now a.i (sym c.before.stands2.ensures ∙ c.if2.true))
 
 signed-digits-requires-2 : tie.Need-signed-digits-requires-2
 signed-digits-requires-2 c κs = search rules
@@ -38,13 +38,13 @@ returns-2 : tie.Need-returns-2
 returns-2 c =
     let f = c.before.before.before in
     let g = c.before in
-    rw (exponent-by-letter, ← f.before.stands.ensures, f.if1.false, ← g.before.stands2.ensures, g.if2.true, drop-drop)
+    rw (exponent_by_letter, ← f.before.stands.ensures, f.if1.false, ← g.before.stands2.ensures, g.if2.true, drop-drop)
     c.signed-digits2.ensures
 
 returns-3 : tie.Need-returns-3
 returns-3 c =
     let f = c.before.before in
-    rw (exponent-by-letter, ← f.before.stands.ensures, f.if1.false, ← c.before.stands2.ensures, c.if2.false)
+    rw (exponent_by_letter, ← f.before.stands.ensures, f.if1.false, ← c.before.stands2.ensures, c.if2.false)
 
 pub exponent-part-spec : {M : Type 1} → statement M
 exponent-part-spec =

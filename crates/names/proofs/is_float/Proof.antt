@@ -5,7 +5,7 @@ use borrow.Author.Tests.{le-leb, lt-leb}
 use borrow.Author.Rules.{rules}
 use Rattle.meaning.specs.Text.{ends}
 use Rattle.names.specs.Behind.{left}
-use Rattle.names.proofs.Numbers.{ends_at, no-integer-no-float, float-without-point, float-ends, float-goes-on}
+use Rattle.names.proofs.Numbers.{ends_at, no_integer_no_float, float_without_point, float_ends, float_goes_on}
 use Rattle.names.proofs.is_float.Statement.{statement}
 use Rattle.names.proofs.is_float.Tie as tie
 
@@ -21,7 +21,7 @@ enum_told c = search rules
 returns : tie.Need-returns
 returns c =
     let s = c.before.before.before.before.args.s.now in
-    sym (no-integer-no-float s (sym c.before.before.integer-part.ensures ∙ ap (left s) c.enum_told.given.1))
+    sym (no_integer_no_float s (sym c.before.before.integer-part.ensures ∙ ap (left s) c.enum_told.given.1))
 
 fractional-part-requires : tie.Need-fractional-part-requires
 fractional-part-requires c κs = search rules
@@ -46,7 +46,7 @@ returns-2 c =
     let s = w.before.before.before.before.args.s.now in
     let whole = sym w.before.before.integer-part.ensures ∙ ap (left s) w.whole.given.1 in
     let none = sym f.fractional-part.ensures ∙ ap (left s) p.enum-told2.given.1 in
-    c.ends.ensures ∙ ap ends c.before.exponent-part.ensures ∙ sym (float-without-point s whole none)
+    c.ends.ensures ∙ ap ends c.before.exponent-part.ensures ∙ sym (float_without_point s whole none)
 
 returns-3 : tie.Need-returns-3
 returns-3 c =
@@ -57,7 +57,7 @@ returns-3 c =
     let whole = sym w.before.before.integer-part.ensures ∙ ap (left s) w.whole.given.1 in
     let point = sym f.fractional-part.ensures ∙ ap (left s) p.point.given.1 in
     let j = p.point.given.0.0 in
-    sym (float-ends s whole point (ends_at s j ∙ le-leb (length s) j c.if1.true))
+    sym (float_ends s whole point (ends_at s j ∙ le-leb (length s) j c.if1.true))
 
 exponent-part-requires-2 : tie.Need-exponent-part-requires-2
 exponent-part-requires-2 c κs = search rules
@@ -75,7 +75,7 @@ returns-4 c =
     let point = sym f.fractional-part.ensures ∙ ap (left s) p.point.given.1 in
     let j = p.point.given.0.0 in
     let on = ends_at s j ∙ lt-leb (length s) j c.before.before.if1.false in
-    c.ends2.ensures ∙ ap ends c.before.exponent-part2.ensures ∙ sym (float-goes-on s whole point on)
+    c.ends2.ensures ∙ ap ends c.before.exponent-part2.ensures ∙ sym (float_goes_on s whole point on)
 
 pub is-float-spec : {M : Type 1} → statement M
 is-float-spec =

@@ -4,8 +4,8 @@ use Prim.Native.Nat.{◌-◌}
 use native.Mathlib.Omega.{arith}
 use lib.ListN.{length}
 use borrow.Author.Rules.{rules}
-use Rattle.base.specs.Bools.{not-true, not-false}
-use Rattle.names.proofs.Names.{Passed, none_passed, one-more-passed, stop-at-byte, stop-at-end}
+use Rattle.base.specs.Bools.{not_true, not_false}
+use Rattle.names.proofs.Names.{Passed, none_passed, one_more_passed, stop_at_byte, stop_at_end}
 use Rattle.names.proofs.past_digits.Statement.{statement}
 use Rattle.names.proofs.past_digits.Tie as tie
 
@@ -28,8 +28,8 @@ returns : tie.Need-returns invariant-loop decreases-loop
 returns c =
     let l = c.before.before.before.before in
     let a = l.before.before.args in
-    stop-at-byte a.s.now a.i l.loop.at l.loop.invariant c.before.before.before.loop-test.true
-    (sym c.before.is_digit.ensures ∙ not-true _ c.if1.true)
+    stop_at_byte a.s.now a.i l.loop.at l.loop.invariant c.before.before.before.loop-test.true
+    (sym c.before.is_digit.ensures ∙ not_true _ c.if1.true)
 
 add_at : tie.Need-overflow-add-at invariant-loop decreases-loop
 add_at c = omega arith
@@ -41,14 +41,14 @@ loop-again : tie.Need-loop-preserved invariant-loop decreases-loop
 loop-again c =
     let l = c.before.before.before.before in
     let a = l.before.before.args in
-    one-more-passed a.s.now a.i l.loop.at l.loop.invariant c.before.before.before.loop-test.true
-    (sym c.before.is_digit.ensures ∙ not-false _ c.if1.false)
+    one_more_passed a.s.now a.i l.loop.at l.loop.invariant c.before.before.before.loop-test.true
+    (sym c.before.is_digit.ensures ∙ not_false _ c.if1.false)
 
 returns-2 : tie.Need-returns-2 invariant-loop decreases-loop
 returns-2 c =
     let l = c.before in
     let a = l.before.before.args in
-    stop-at-end a.s.now a.i l.loop.at l.loop.invariant c.loop-test.false
+    stop_at_end a.s.now a.i l.loop.at l.loop.invariant c.loop-test.false
 
 pub past-digits-spec : {M : Type 1} → statement M
 past-digits-spec =

@@ -4,7 +4,7 @@ use Prim.Native.Nat.{◌-◌}
 use native.Mathlib.Omega.{arith}
 use lib.ListN.{length, drop}
 use Rattle.meaning.specs.Text.{same}
-use Rattle.names.proofs.Bytes.{other_length, one_more, differs, at-end}
+use Rattle.names.proofs.Bytes.{other_length, one_more, differs, at_end}
 use Rattle.names.proofs.same.Statement.{statement}
 use Rattle.names.proofs.same.Tie as tie
 
@@ -48,7 +48,7 @@ returns-3 : tie.Need-returns-3 invariant-loop decreases-loop
 returns-3 c =
     let l = c.before in
     let a = l.before.before.args in
-    sym (at-end a.a.now a.b.now l.loop.i (omega arith) (omega arith)) ∙ l.loop.invariant
+    sym (at_end a.a.now a.b.now l.loop.i (omega arith) (omega arith)) ∙ l.loop.invariant
 
 pub same_spec : {M : Type 1} → statement M
 same_spec =

@@ -1,5 +1,5 @@
 -- Where every node ends within its cap there is no fault; else the links find the smallest.
-use Rattle.table_laws.specs.First.{first-none}
+use Rattle.table_laws.specs.First.{first_none}
 use lib.ListN.{get_or-replicate}
 use native.Mathlib.Omega.{arith}
 use borrow.Author.Rules.{rules}
@@ -13,7 +13,7 @@ is-nested-requires : tie.Need-is-nested-requires
 is-nested-requires c κs = (c.before.before.requires, record { size = search rules; none = λ m h. get_or-replicate 8193 m 0 0 (omega arith) })
 
 returns : tie.Need-returns
-returns c = first-none (c.before.before.is-nested.ensures c.if1.true)
+returns c = first_none (c.before.before.is-nested.ensures c.if1.true)
 
 slice-aggregate-scan : tie.Need-slice-aggregate-scan
 slice-aggregate-scan c = search rules

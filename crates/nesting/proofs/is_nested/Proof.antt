@@ -1,6 +1,6 @@
 use lib.ListN.{length, length-set}
 -- The nodes passed are within their caps, so that none of them crosses the end of another.
-use Rattle.nesting.proofs.Caps.{Capped, none-capped, capped-more, no-crossing}
+use Rattle.nesting.proofs.Caps.{Capped, none_capped, capped_more, no_crossing}
 use Rattle.base.specs.Bools.{clash}
 use borrow.Author.Rules.{rules}
 use native.Mathlib.Omega.{arith}
@@ -16,7 +16,7 @@ abbrev decreases-loop : tie.decreases-loop
 decreases-loop words caps₀ n cap₀ i₀ caps cap i = n - i
 
 loop-holds : tie.Need-loop-init invariant-loop decreases-loop
-loop-holds c = none-capped c.before.before.requires.1
+loop-holds c = none_capped c.before.before.requires.1
 
 end-requires : tie.Need-end-requires invariant-loop decreases-loop
 end-requires c κs = record { words = omega arith; few = omega arith }
@@ -70,11 +70,11 @@ loop-less c = omega arith
 
 loop-again : tie.Need-loop-preserved invariant-loop decreases-loop
 loop-again c =
-    let at-end = c.before.before.before.before.before in
-    let at-loop = at-end.before.before in
+    let at_end = c.before.before.before.before.before in
+    let at-loop = at_end.before.before in
     let entry = at-loop.before.before.before in
-    capped-more at-loop.loop.invariant (omega arith) at-end.end.ensures.is
-    (omega (arith, entry.requires.0.within at-loop.loop.i (omega arith), at-end.end.ensures.is, at-loop.loop.invariant.same, entry.requires.1.size))
+    capped_more at-loop.loop.invariant (omega arith) at_end.end.ensures.is
+    (omega (arith, entry.requires.0.within at-loop.loop.i (omega arith), at_end.end.ensures.is, at-loop.loop.invariant.same, entry.requires.1.size))
     (omega arith) c.before.before.larger.ensures c.larger2.ensures
 
 same-length-2 : tie.Need-same-length-2 invariant-loop decreases-loop
@@ -83,7 +83,7 @@ same-length-2 c = c.before.loop.invariant.same
 returns-2 : tie.Need-returns-2 invariant-loop decreases-loop
 returns-2 c e k l =
     let entry = c.before.before.before.before in
-    no-crossing c.before.loop.invariant c.loop-test.false k (entry.requires.0.within k l)
+    no_crossing c.before.loop.invariant c.loop-test.false k (entry.requires.0.within k l)
 
 pub is-nested-spec : {M : Type 1} → statement M
 is-nested-spec =

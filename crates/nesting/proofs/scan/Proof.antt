@@ -3,7 +3,7 @@ use Prim.Native.Nat.{◌-◌}
 use native.Mathlib.Omega.{arith}
 use lib.ListN.{length}
 use Rattle.table_laws.specs.First.{from_first}
-use Rattle.nesting.proofs.Laws.{Scanned, scan_begins, scan-hit, scan-miss}
+use Rattle.nesting.proofs.Laws.{Scanned, scan_begins, scan_hit, scan_miss}
 use Rattle.nesting.proofs.scan.Statement.{statement}
 use Rattle.nesting.proofs.scan.Tie as tie
 
@@ -40,7 +40,7 @@ loop-again : tie.Need-loop-preserved invariant-loop decreases-loop
 loop-again c =
     let l = c.before.before.before.before.before.before in
     let q = c.before.before.before.next-that-ends-later.ensures in
-    scan-hit (omega arith) l.loop.invariant q (omega arith) (l.before.before.before.requires.0.within (l.loop.i - 1) (omega arith)) (omega arith)
+    scan_hit (omega arith) l.loop.invariant q (omega arith) (l.before.before.before.requires.0.within (l.loop.i - 1) (omega arith)) (omega arith)
 
 loop-less-2 : tie.Need-loop-smaller-2 invariant-loop decreases-loop
 loop-less-2 c = omega arith
@@ -48,7 +48,7 @@ loop-less-2 c = omega arith
 loop-again-2 : tie.Need-loop-preserved-2 invariant-loop decreases-loop
 loop-again-2 c =
     let q = c.before.before.before.next-that-ends-later.ensures in
-    scan-miss (omega arith) c.before.before.before.before.before.before.loop.invariant q (omega arith)
+    scan_miss (omega arith) c.before.before.before.before.before.before.loop.invariant q (omega arith)
 
 same_length : tie.Need-same-length invariant-loop decreases-loop
 same_length c = c.before.loop.invariant.same

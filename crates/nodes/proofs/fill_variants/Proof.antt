@@ -1,5 +1,5 @@
 -- The kinds passed have their numbers.
-use Rattle.nodes.proofs.Fine.{filled_more, few-variants}
+use Rattle.nodes.proofs.Fine.{filled_more, few_variants}
 use Rattle.meaning.specs.Children.{row_of}
 use borrow.Author.Rules.{rules}
 use lib.ListN.{length, get_or}
@@ -22,7 +22,7 @@ variants-of-requires : tie.Need-variants-of-requires invariant-loop decreases-lo
 variants-of-requires c κs = omega arith
 
 cast_t : tie.Need-overflow-cast-t invariant-loop decreases-loop
-cast_t c = omega (arith, c.variants-of.ensures, few-variants c.before.before.loop.k (omega arith))
+cast_t c = omega (arith, c.variants-of.ensures, few_variants c.before.before.loop.k (omega arith))
 
 element-write-t : tie.Need-element-write-t invariant-loop decreases-loop
 element-write-t c = omega arith

@@ -5,13 +5,13 @@ use Prim.Native.Nat.{ℕ, ◌-◌, ◌≤◌, ◌<◌}
 use native.Mathlib.Omega.{arith}
 use borrow.Author.Count.{below_none, below_more}
 use borrow.Author.Rules.{rules}
-use Rattle.meaning.specs.Refusals.{nodeFault}
-use Rattle.table_laws.specs.First.{first-hit, first-none}
+use Rattle.meaning.specs.Refusals.{node_fault}
+use Rattle.table_laws.specs.First.{first_hit, first_none}
 use Rattle.nodes.proofs.first_fault.Statement.{statement}
 use Rattle.nodes.proofs.first_fault.Tie as tie
 
 abbrev invariant-loop : tie.invariant-loop
-invariant-loop words pool variants textless n i₀ i = (i ≤ n) × ((k : ℕ) → k < i → nodeFault words pool k ≡ false)
+invariant-loop words pool variants textless n i₀ i = (i ≤ n) × ((k : ℕ) → k < i → node_fault words pool k ≡ false)
 
 abbrev decreases-loop : tie.decreases-loop
 decreases-loop words pool variants textless n i₀ i = n - i
@@ -23,7 +23,7 @@ fault-at-requires : tie.Need-fault-at-requires invariant-loop decreases-loop
 fault-at-requires c κs = search rules
 
 returns : tie.Need-returns invariant-loop decreases-loop
-returns c = first-hit (omega arith) c.before.before.before.loop.invariant.1 (sym c.before.fault-at.ensures ∙ c.if1.true)
+returns c = first_hit (omega arith) c.before.before.before.loop.invariant.1 (sym c.before.fault-at.ensures ∙ c.if1.true)
 
 add-i : tie.Need-overflow-add-i invariant-loop decreases-loop
 add-i c = omega arith
@@ -35,7 +35,7 @@ loop-again : tie.Need-loop-preserved invariant-loop decreases-loop
 loop-again c = (omega arith, below_more _ _ c.before.before.before.loop.invariant.1 (sym c.before.fault-at.ensures ∙ c.if1.false))
 
 returns-2 : tie.Need-returns-2 invariant-loop decreases-loop
-returns-2 c = first-none (λ k l. c.before.loop.invariant.1 k (omega arith))
+returns-2 c = first_none (λ k l. c.before.loop.invariant.1 k (omega arith))
 
 pub first-fault-spec : {M : Type 1} → statement M
 first-fault-spec =

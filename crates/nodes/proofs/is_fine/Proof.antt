@@ -1,6 +1,6 @@
 -- The tests are those of the definition, with a kind's variants and whether it takes text read from the tables.
-use Rattle.nodes.proofs.Fine.{textless-digit, small_product, no-fault}
-use Rattle.base.specs.Bools.{clash, not-true}
+use Rattle.nodes.proofs.Fine.{textless_digit, small_product, no_fault}
+use Rattle.base.specs.Bools.{clash, not_true}
 use borrow.Author.Tests.{eqb-false}
 use native.Mathlib.Omega.{arith}
 use mathlib.Core.Path.{refl}
@@ -59,7 +59,7 @@ mul-if6 c =
     let at-kind = at_length.before.before.before.before.before.before.before in
     let at-start = at-kind.before.before.before.before in
     let each = at-start.requires.3.each at-kind.kind.result (omega arith) in
-    let digit = textless-digit at-kind.kind.result in
+    let digit = textless_digit at-kind.kind.result in
     omega
     (arith, at_length.length.ensures.bound, small_product c.wide2.result at_length.length.result (omega (arith, each, digit, c.wide2.ensures)))
 
@@ -77,8 +77,8 @@ returns-8 c e = clash e refl
 
 returns-9 : tie.Need-returns-9
 returns-9 c e =
-    let at-end = c.before.before in
-    let at-wide2 = at-end.before.before in
+    let at_end = c.before.before in
+    let at-wide2 = at_end.before.before in
     let at-if5 = at-wide2.before.before in
     let at-if4 = at-if5.before in
     let at_length = at-if4.before in
@@ -90,13 +90,13 @@ returns-9 c e =
     let at-kind = at-if2.before in
     let at-if1 = at-kind.before in
     let entry = at-if1.before.before.before in
-    no-fault entry.args.words.now entry.args.pool.now entry.args.i.0 at-kind.kind.result
-    at_variant.variant.result at-start.start.result at_length.length.result at-end.end.result
+    no_fault entry.args.words.now entry.args.pool.now entry.args.i.0 at-kind.kind.result
+    at_variant.variant.result at-start.start.result at_length.length.result at_end.end.result
     at-kind.kind.ensures at_variant.variant.ensures at-start.start.ensures at_length.length.ensures
-    at-end.end.ensures (omega (arith, at-if1.if1.false)) (omega (arith, at-if2.if2.false))
+    at_end.end.ensures (omega (arith, at-if1.if1.false)) (omega (arith, at-if2.if2.false))
     (omega (arith, at-if3.if3.false, at_wide.wide.ensures, entry.requires.2.each at-kind.kind.result (omega (arith, at-if2.if2.false)))) (omega (arith, at-if4.if4.false)) (omega (arith, at-if5.if5.false))
     (rw (← entry.requires.3.each at-kind.kind.result (omega (arith, at-if2.if2.false)), ← at-wide2.wide2.ensures) c.before.before.before.if6.false) (omega (arith, c.before.if7.false)) (omega (arith, c.if8.false, entry.requires.1))
-    (eqb-false at-kind.kind.result 0 (not-true _ e))
+    (eqb-false at-kind.kind.result 0 (not_true _ e))
 
 pub is-fine-spec : {M : Type 1} → statement M
 is-fine-spec =

@@ -1,6 +1,6 @@
 -- `nodes::kind_fault` meets its contract: the two tests of its definition, in its order.
 use borrow.Author.Tests.{le-leb, lt-leb}
-use Rattle.meaning.specs.Refusals.{kindFault}
+use Rattle.meaning.specs.Refusals.{kind_fault}
 use borrow.Author.Rules.{rules}
 use Rattle.nodes.proofs.kind_fault.Statement.{statement}
 use Rattle.nodes.proofs.kind_fault.Tie as tie
@@ -9,7 +9,7 @@ kind-requires : tie.Need-kind-requires
 kind-requires c κs = search rules
 
 returns : tie.Need-returns
-unfolding kindFault
+unfolding kind_fault
 returns c = rw (← c.before.kind.ensures.is, le-leb 45 _ c.if1.true)
 
 variants-of-requires : tie.Need-variants-of-requires
@@ -19,7 +19,7 @@ variant-requires : tie.Need-variant-requires
 variant-requires c κs = search rules
 
 returns-2 : tie.Need-returns-2
-unfolding kindFault
+unfolding kind_fault
 returns-2 c =
     let v = c.before in
     rw (← v.before.before.kind.ensures.is, lt-leb 45 _ v.before.if1.false, ← c.variant.ensures.is, ← v.variants-of.ensures)

@@ -4,10 +4,10 @@ use mathlib.Core.Bool.{Bool, true, false, not, ◌||◌}
 use mathlib.Core.List.{List, [], ◌∷◌}
 use Prim.Native.Nat.{ℕ, ◌+◌, ◌≤◌, ◌<◌}
 use native.Mathlib.Omega.{arith}
-use Rattle.base.specs.Bools.{not-true}
+use Rattle.base.specs.Bools.{not_true}
 use Rattle.base.specs.Finite.{all}
 use Rattle.meaning.specs.Children.{rows, row_of}
-use Rattle.meaning.specs.Refusals.{takesNoText}
+use Rattle.meaning.specs.Refusals.{takes_no_text}
 use Rattle.base.specs.Arms.{Rest, member, arm}
 use Rattle.nodes.proofs.takes_no_text.Statement.{statement}
 use Rattle.nodes.proofs.takes_no_text.Tie as tie
@@ -17,7 +17,7 @@ abbrev single : List ℕ
 single = 28 ∷ 11 ∷ 4 ∷ 0 ∷ []
 
 abbrev textless : ℕ → Bool
-textless k = takesNoText (row_of k).text
+textless k = takes_no_text (row_of k).text
 
 has-none : (low n : ℕ) (xs : List ℕ) → all (λ j. member (low + j) xs || textless (low + j)) n ≡ true
     → (k : ℕ) → low ≤ k → k < low + n → Rest xs k → true ≡ textless k
@@ -25,7 +25,7 @@ has-none low n xs t k a b r = sym (arm textless low n xs t k a b r)
 
 may-have : (low n : ℕ) (xs : List ℕ) → all (λ j. member (low + j) xs || not (textless (low + j))) n ≡ true
     → (k : ℕ) → low ≤ k → k < low + n → Rest xs k → false ≡ textless k
-may-have low n xs t k a b r = sym (not-true (textless k) (arm (λ j. not (textless j)) low n xs t k a b r))
+may-have low n xs t k a b r = sym (not_true (textless k) (arm (λ j. not (textless j)) low n xs t k a b r))
 
 returns : tie.Need-returns
 unfolding row_of rows

@@ -5,7 +5,7 @@ use Prim.Native.Nat.{◌≤◌, ◌+◌, ◌-◌}
 use native.Mathlib.Omega.{arith}
 use lib.ListN.{length, drop}
 use borrow.Author.Rules.{rules}
-use Rattle.pen.specs.Put.{put, store-none, store-one, store-done}
+use Rattle.pen.specs.Put.{put, store_none, store_one, store_done}
 use Rattle.pen.proofs.store.Statement.{statement}
 use Rattle.pen.proofs.store.Tie as tie
 
@@ -17,7 +17,7 @@ abbrev decreases-loop : tie.decreases-loop
 decreases-loop out₀ at bytes n i₀ out i = n - i
 
 loop-holds : tie.Need-loop-init invariant-loop decreases-loop
-loop-holds c = (search rules, store-none _ _ _, search rules)
+loop-holds c = (search rules, store_none _ _ _, search rules)
 
 shared-slice-read-out : tie.Need-shared-slice-read-out invariant-loop decreases-loop
 shared-slice-read-out c = search rules
@@ -35,13 +35,13 @@ loop-less : tie.Need-loop-smaller invariant-loop decreases-loop
 loop-less c = search rules
 
 loop-again : tie.Need-loop-preserved invariant-loop decreases-loop
-loop-again c = (search rules, store-one _ _ _ _ (omega arith) ∙ c.before.before.loop.invariant.1, search rules)
+loop-again c = (search rules, store_one _ _ _ _ (omega arith) ∙ c.before.before.loop.invariant.1, search rules)
 
 same_length : tie.Need-same-length invariant-loop decreases-loop
 same_length c = search rules
 
 returns : tie.Need-returns invariant-loop decreases-loop
-returns c = sym (store-done _ _ _ _ (omega arith)) ∙ c.before.loop.invariant.1
+returns c = sym (store_done _ _ _ _ (omega arith)) ∙ c.before.loop.invariant.1
 
 pub store_spec : {M : Type 1} → statement M
 store_spec =

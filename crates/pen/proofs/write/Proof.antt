@@ -1,7 +1,7 @@
 -- Past the end nothing is stored, and before it `store` stores what there is room for; the place goes on by all of `bytes`.
 use mathlib.Core.Path.{sym}
 use native.Mathlib.Omega.{arith}
-use Rattle.pen.specs.Put.{put-past}
+use Rattle.pen.specs.Put.{put_past}
 use borrow.Author.Rules.{rules}
 use Rattle.pen.proofs.write.Statement.{statement}
 use Rattle.pen.proofs.write.Tie as tie
@@ -10,7 +10,7 @@ onward-requires : tie.Need-onward-requires
 onward-requires c κs = search rules
 
 returns : tie.Need-returns
-returns c = record { place = c.onward.ensures; text = sym (put-past _ _ _ c.before.if1.true); size = omega arith }
+returns c = record { place = c.onward.ensures; text = sym (put_past _ _ _ c.before.if1.true); size = omega arith }
 
 sub-room : tie.Need-overflow-sub-room
 sub-room c = search rules

@@ -1,7 +1,7 @@
 -- A byte is stored where its place is within `out`; elsewhere nothing is, which is what `put` says past the end.
 use mathlib.Core.Path.{sym}
 use native.Mathlib.Omega.{arith}
-use Rattle.pen.specs.Put.{put_one, put-past}
+use Rattle.pen.specs.Put.{put_one, put_past}
 use borrow.Author.Rules.{rules}
 use Rattle.pen.proofs.write_byte.Statement.{statement}
 use Rattle.pen.proofs.write_byte.Tie as tie
@@ -22,7 +22,7 @@ onward-requires : tie.Need-onward-requires
 onward-requires c κs = search rules
 
 returns-2 : tie.Need-returns-2
-returns-2 c = record { place = c.onward.ensures; text = sym (put-past _ _ _ c.before.if1.false); size = omega arith }
+returns-2 c = record { place = c.onward.ensures; text = sym (put_past _ _ _ c.before.if1.false); size = omega arith }
 
 pub write-byte-spec : {M : Type 1} → statement M
 write-byte-spec =

@@ -4,8 +4,8 @@ use native.Mathlib.Omega.{arith}
 use lib.ListN.{length}
 use borrow.Author.Rules.{rules}
 use Rattle.meaning.specs.Settings.{times}
-use Rattle.pen.specs.Wrote.{Left, left-all, left_step, left-done, left_as}
-use Rattle.pen.specs.Times.{times-one, times_none}
+use Rattle.pen.specs.Wrote.{Left, left_all, left_step, left_done, left_as}
+use Rattle.pen.specs.Times.{times_one, times_none}
 use Rattle.pen.proofs.write_times.Statement.{statement}
 use Rattle.pen.proofs.write_times.Tie as tie
 
@@ -16,7 +16,7 @@ abbrev decreases-loop : tie.decreases-loop
 decreases-loop out₀ bytes count left₀ p₀ out left p = left
 
 loop-holds : tie.Need-loop-init invariant-loop decreases-loop
-loop-holds c = (left-all (omega arith), search rules)
+loop-holds c = (left_all (omega arith), search rules)
 
 sub-left : tie.Need-overflow-sub-left invariant-loop decreases-loop
 sub-left c = search rules
@@ -31,13 +31,13 @@ loop-again : tie.Need-loop-preserved invariant-loop decreases-loop
 loop-again c =
     let w = c.before.before in
     let t = w.before.before in
-    (left_step (left_as t.before.loop.invariant.0 (times-one _ _ t.loop-test.true)) w.write.ensures, search rules)
+    (left_step (left_as t.before.loop.invariant.0 (times_one _ _ t.loop-test.true)) w.write.ensures, search rules)
 
 same_length : tie.Need-same-length invariant-loop decreases-loop
 same_length c = search rules
 
 returns : tie.Need-returns invariant-loop decreases-loop
-returns c = left-done (left_as c.before.loop.invariant.0 (times_none _ _ c.loop-test.false))
+returns c = left_done (left_as c.before.loop.invariant.0 (times_none _ _ c.loop-test.false))
 
 pub write-times-spec : {M : Type 1} → statement M
 write-times-spec =

@@ -1,6 +1,6 @@
 -- The test is the definition's.
 use borrow.Author.Tests.{lt-ltb, le-ltb}
-use Rattle.meaning.specs.Quoted.{hexDigit}
+use Rattle.meaning.specs.Quoted.{hex_digit}
 use borrow.Author.Rules.{rules}
 use Rattle.quoted.proofs.hex_digit.Statement.{statement}
 use Rattle.quoted.proofs.hex_digit.Tie as tie
@@ -9,14 +9,14 @@ add-result : tie.Need-overflow-add-result
 add-result c = search rules
 
 returns : tie.Need-returns
-unfolding hexDigit
+unfolding hex_digit
 returns c = simp (lt-ltb _ _ c.if1.true)
 
 add-result-2 : tie.Need-overflow-add-result-2
 add-result-2 c = search rules
 
 returns-2 : tie.Need-returns-2
-unfolding hexDigit
+unfolding hex_digit
 returns-2 c = simp (le-ltb _ _ c.if1.false)
 
 pub hex-digit-spec : {M : Type 1} → statement M

@@ -1,6 +1,6 @@
 -- One array holds the escape, whole, and is written at once: its bytes are what `escaped` says for the byte's class.
 use Rattle.pen.specs.Wrote.{wrote_as}
-use Rattle.quoted.specs.Escapes.{escaped-by-letter, escaped-by-digits}
+use Rattle.quoted.specs.Escapes.{escaped_by_letter, escaped_by_digits}
 use borrow.Author.Rules.{rules}
 use Rattle.quoted.proofs.write_escape.Statement.{statement}
 use Rattle.quoted.proofs.write_escape.Tie as tie
@@ -22,7 +22,7 @@ returns c =
     let w = c.before.before in
     let t = w.before.before.before in
     let k = t.before in
-    wrote_as w.write.ensures (escaped-by-letter _ _ k.class_of.ensures k.before.before.requires.1 t.if1.true)
+    wrote_as w.write.ensures (escaped_by_letter _ _ k.class_of.ensures k.before.before.requires.1 t.if1.true)
 
 hex-digit-requires : tie.Need-hex-digit-requires
 hex-digit-requires c κs = search rules
@@ -46,7 +46,7 @@ returns-2 c =
     let x = y.before in
     let t = x.before in
     wrote_as w.write2.ensures
-    (escaped-by-digits _ _ _ _ t.before.class_of.ensures t.if1.false x.hex-digit.ensures y.hex-digit2.ensures)
+    (escaped_by_digits _ _ _ _ t.before.class_of.ensures t.if1.false x.hex-digit.ensures y.hex-digit2.ensures)
 
 pub write-escape-spec : {M : Type 1} → statement M
 write-escape-spec =

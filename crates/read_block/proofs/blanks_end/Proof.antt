@@ -3,9 +3,9 @@ use mathlib.Core.Path.{◌≡◌, refl, sym, ◌∙◌}
 use Prim.Native.Nat.{◌+◌, ◌-◌}
 use lib.ListN.{length, drop}
 use borrow.Author.Rules.{rules}
-use Rattle.base.specs.Bools.{not-true, not-false}
+use Rattle.base.specs.Bools.{not_true, not_false}
 use Rattle.meaning.specs.Block.{indent}
-use Rattle.read_block_laws.specs.Counts.{no-blank-left, one-blank-more, blanks-end-here}
+use Rattle.read_block_laws.specs.Counts.{no_blank_left, one_blank_more, blanks_end_here}
 use Rattle.read_block.proofs.blanks_end.Statement.{statement}
 use Rattle.read_block.proofs.blanks_end.Tie as tie
 
@@ -28,8 +28,8 @@ returns : tie.Need-returns invariant-loop decreases-loop
 returns c =
     let turn = c.before.before.before in
     let l = turn.before.loop in
-    let no-blank = sym c.before.is-blank.ensures ∙ not-true _ c.if1.true in
-    sym (blanks-end-here _ l.j turn.loop-test.true no-blank) ∙ l.invariant
+    let no_blank_lem = sym c.before.is-blank.ensures ∙ not_true _ c.if1.true in
+    sym (blanks_end_here _ l.j turn.loop-test.true no_blank_lem) ∙ l.invariant
 
 add-j : tie.Need-overflow-add-j invariant-loop decreases-loop
 add-j c = search rules
@@ -41,10 +41,10 @@ loop-again : tie.Need-loop-preserved invariant-loop decreases-loop
 loop-again c =
     let turn = c.before.before.before in
     let l = turn.before.loop in
-    one-blank-more _ l.j turn.loop-test.true (sym c.before.is-blank.ensures ∙ not-false _ c.if1.false) ∙ l.invariant
+    one_blank_more _ l.j turn.loop-test.true (sym c.before.is-blank.ensures ∙ not_false _ c.if1.false) ∙ l.invariant
 
 returns-2 : tie.Need-returns-2 invariant-loop decreases-loop
-returns-2 c = let l = c.before.loop in sym (no-blank-left _ l.j c.loop-test.false) ∙ l.invariant
+returns-2 c = let l = c.before.loop in sym (no_blank_left _ l.j c.loop-test.false) ∙ l.invariant
 
 pub blanks-end-spec : {M : Type 1} → statement M
 blanks-end-spec =

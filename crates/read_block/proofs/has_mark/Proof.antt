@@ -4,7 +4,7 @@ use Prim.Native.Nat.{ℕ, ◌+◌, ◌-◌, ◌≤◌, ◌<◌}
 use native.Mathlib.Omega.{arith}
 use lib.ListN.{length, take, drop}
 use borrow.Author.Rules.{rules}
-use Rattle.read_block_laws.specs.Plain.{marked, none-marked, one-more-byte}
+use Rattle.read_block_laws.specs.Plain.{marked, none_marked, one_more_byte}
 use Rattle.read_block.proofs.has_mark.Statement.{statement}
 use Rattle.read_block.proofs.has_mark.Tie as tie
 
@@ -15,7 +15,7 @@ abbrev decreases-loop : tie.decreases-loop
 decreases-loop s i found₀ k₀ found k = 16 - k
 
 loop-holds : tie.Need-loop-init invariant-loop decreases-loop
-loop-holds c = (search rules, sym (none-marked (drop c.before.args.i c.before.args.s.now)))
+loop-holds c = (search rules, sym (none_marked (drop c.before.args.i c.before.args.s.now)))
 
 add-is-mark : tie.Need-overflow-add-is-mark invariant-loop decreases-loop
 add-is-mark c = search rules
@@ -37,7 +37,7 @@ loop-again c =
     let l = c.before.before.before.loop in
     let f = c.before.before.before.before.before in
     let in-text : f.args.i + l.k < length f.args.s.now = omega (arith, f.requires, c.before.before.loop-test.true) in
-    (search rules, rw (l.invariant.1, c.is-mark.ensures) (sym (one-more-byte _ _ _ in-text)))
+    (search rules, rw (l.invariant.1, c.is-mark.ensures) (sym (one_more_byte _ _ _ in-text)))
 
 returns : tie.Need-returns invariant-loop decreases-loop
 returns c =

@@ -3,14 +3,14 @@ use mathlib.Core.Path.{◌≡◌, sym, ◌∙◌}
 use Prim.Native.Nat.{◌+◌, ◌-◌}
 use lib.ListN.{length, drop}
 use borrow.Author.Rules.{rules}
-use Rattle.read_block_laws.specs.FirstLine.{lineLength}
-use Rattle.read_block_laws.specs.Plain.{line-goes-on}
-use Rattle.read_block_laws.specs.Counts.{no-line-left, line-one-more, line-ends-here}
+use Rattle.read_block_laws.specs.FirstLine.{line_length}
+use Rattle.read_block_laws.specs.Plain.{line_goes_on}
+use Rattle.read_block_laws.specs.Counts.{no_line_left, line_one_more, line_ends_here}
 use Rattle.read_block.proofs.line_end.Statement.{statement}
 use Rattle.read_block.proofs.line_end.Tie as tie
 
 abbrev invariant-loop : tie.invariant-loop
-invariant-loop s i j₀ j = j + lineLength (drop j s) ≡ i + lineLength (drop i s)
+invariant-loop s i j₀ j = j + line_length (drop j s) ≡ i + line_length (drop i s)
 
 abbrev decreases-loop : tie.decreases-loop
 decreases-loop s i j₀ j = length s - j
@@ -19,7 +19,7 @@ past-plain-requires : tie.Need-past-plain-requires invariant-loop decreases-loop
 past-plain-requires c κs = search rules
 
 loop-holds : tie.Need-loop-init invariant-loop decreases-loop
-loop-holds c = line-goes-on _ _ _ c.past-plain.ensures
+loop-holds c = line_goes_on _ _ _ c.past-plain.ensures
 
 shared-slice-read-is-line-end : tie.Need-shared-slice-read-is-line-end invariant-loop decreases-loop
 shared-slice-read-is-line-end c = search rules
@@ -31,7 +31,7 @@ returns : tie.Need-returns invariant-loop decreases-loop
 returns c =
     let turn = c.before.before.before in
     let l = turn.before.loop in
-    sym (line-ends-here _ l.j turn.loop-test.true (sym c.before.is-line-end.ensures ∙ c.if1.true)) ∙ l.invariant
+    sym (line_ends_here _ l.j turn.loop-test.true (sym c.before.is-line-end.ensures ∙ c.if1.true)) ∙ l.invariant
 
 add-j : tie.Need-overflow-add-j invariant-loop decreases-loop
 add-j c = search rules
@@ -43,10 +43,10 @@ loop-again : tie.Need-loop-preserved invariant-loop decreases-loop
 loop-again c =
     let turn = c.before.before.before in
     let l = turn.before.loop in
-    line-one-more _ l.j turn.loop-test.true (sym c.before.is-line-end.ensures ∙ c.if1.false) ∙ l.invariant
+    line_one_more _ l.j turn.loop-test.true (sym c.before.is-line-end.ensures ∙ c.if1.false) ∙ l.invariant
 
 returns-2 : tie.Need-returns-2 invariant-loop decreases-loop
-returns-2 c = let l = c.before.loop in sym (no-line-left _ l.j c.loop-test.false) ∙ l.invariant
+returns-2 c = let l = c.before.loop in sym (no_line_left _ l.j c.loop-test.false) ∙ l.invariant
 
 pub line-end-spec : {M : Type 1} → statement M
 line-end-spec =

@@ -3,7 +3,7 @@ use mathlib.Core.Path.{sym, ◌∙◌}
 use Prim.Native.Nat.{◌-◌}
 use lib.ListN.{length}
 use borrow.Author.Rules.{rules}
-use Rattle.read_block_laws.specs.Plain.{Plain, plain-one-further}
+use Rattle.read_block_laws.specs.Plain.{Plain, plain_one_further}
 use Rattle.read_block.proofs.next_mark.Statement.{statement}
 use Rattle.read_block.proofs.next_mark.Tie as tie
 
@@ -38,7 +38,7 @@ loop-again : tie.Need-loop-preserved invariant-loop decreases-loop
 loop-again c =
     let turn = c.before.before.before in
     let l = turn.before.loop in
-    plain-one-further _ _ l.j l.invariant turn.loop-test.true (sym c.before.is-mark.ensures ∙ c.if1.false)
+    plain_one_further _ _ l.j l.invariant turn.loop-test.true (sym c.before.is-mark.ensures ∙ c.if1.false)
 
 returns-2 : tie.Need-returns-2 invariant-loop decreases-loop
 returns-2 c = c.before.loop.invariant

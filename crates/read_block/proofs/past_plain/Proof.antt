@@ -4,7 +4,7 @@ use Prim.Native.Nat.{◌-◌}
 use native.Mathlib.Omega.{arith}
 use lib.ListN.{length}
 use borrow.Author.Rules.{rules}
-use Rattle.read_block_laws.specs.Plain.{Plain, plain-so-far, plain-further}
+use Rattle.read_block_laws.specs.Plain.{Plain, plain_so_far, plain_further}
 use Rattle.read_block.proofs.past_plain.Statement.{statement}
 use Rattle.read_block.proofs.past_plain.Tie as tie
 
@@ -15,7 +15,7 @@ abbrev decreases-loop : tie.decreases-loop
 decreases-loop s i j₀ j = length s - j
 
 loop-holds : tie.Need-loop-init invariant-loop decreases-loop
-loop-holds c = plain-so-far _ _ c.before.requires
+loop-holds c = plain_so_far _ _ c.before.requires
 
 sub-loop : tie.Need-overflow-sub-loop invariant-loop decreases-loop
 sub-loop c = search rules
@@ -36,8 +36,8 @@ loop-again : tie.Need-loop-preserved invariant-loop decreases-loop
 loop-again c =
     let l = c.before.before.before.loop in
     let f = c.before.before.before.before.before in
-    let no-mark = sym c.before.has-mark.ensures ∙ c.if1.false in
-    plain-further f.args.s.now f.args.i l.j 16 l.invariant (omega arith) no-mark
+    let no_mark = sym c.before.has-mark.ensures ∙ c.if1.false in
+    plain_further f.args.s.now f.args.i l.j 16 l.invariant (omega arith) no_mark
 
 returns-2 : tie.Need-returns-2 invariant-loop decreases-loop
 returns-2 c = c.before.loop.invariant

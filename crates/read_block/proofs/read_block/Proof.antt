@@ -4,15 +4,15 @@ use mathlib.Core.Path.{sym, ◌∙◌}
 use native.Mathlib.Omega.{arith}
 use lib.Seq.{length-take-le}
 use borrow.Author.Rules.{rules}
-use Rattle.base.specs.Bools.{not-true, not-false}
-use Rattle.read_block.proofs.Parts.{closed-is-long, not-closed-is-refused, short-is-refused, closed-is-read}
+use Rattle.base.specs.Bools.{not_true, not_false}
+use Rattle.read_block.proofs.Parts.{closed_is_long, not_closed_is_refused, short_is_refused, closed_is_read}
 use Rattle.read_block.proofs.read_block.Statement.{statement}
 use Rattle.read_block.proofs.read_block.Tie as tie
 
 returns : tie.Need-returns
 returns c =
     let args = c.before.before.before.args in
-    short-is-refused args.text.now args.out.now c.if1.true
+    short_is_refused args.text.now args.out.now c.if1.true
 
 sub-s : tie.Need-overflow-sub-s
 sub-s c = search rules
@@ -29,12 +29,12 @@ is-closed-requires c κs = search rules
 returns-2 : tie.Need-returns-2
 returns-2 c =
     let args = c.before.before.before.before.before.before.args in
-    not-closed-is-refused args.text.now args.out.now (sym c.before.is-closed.ensures ∙ not-true _ c.if2.true)
+    not_closed_is_refused args.text.now args.out.now (sym c.before.is-closed.ensures ∙ not_true _ c.if2.true)
 
 sub-end : tie.Need-overflow-sub-end
 sub-end c =
     let args = c.before.before.before.before.before.before.args in
-    closed-is-long args.text.now (sym c.before.is-closed.ensures ∙ not-false _ c.if2.false)
+    closed_is_long args.text.now (sym c.before.is-closed.ensures ∙ not_false _ c.if2.false)
 
 slice-aggregate-read-source : tie.Need-slice-aggregate-read-source
 slice-aggregate-read-source c = sym (length-take-le _ _ (omega arith))
@@ -49,8 +49,8 @@ returns-3 : tie.Need-returns-3
 returns-3 c =
     let test = c.before.before.before.before.before in
     let args = test.before.before.before.before.before.before.args in
-    let closed = sym test.before.is-closed.ensures ∙ not-false _ test.if2.false in
-    closed-is-read args.text.now args.out.now closed c.before.before.read-source.ensures
+    let closed = sym test.before.is-closed.ensures ∙ not_false _ test.if2.false in
+    closed_is_read args.text.now args.out.now closed c.before.before.read-source.ensures
 
 pub read-block-spec : {M : Type 1} → statement M
 read-block-spec =

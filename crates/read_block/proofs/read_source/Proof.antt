@@ -5,8 +5,8 @@ use Prim.Native.Nat.{◌<◌}
 use native.Mathlib.Omega.{arith}
 use lib.Seq.{length-take-le}
 use borrow.Author.Rules.{rules}
-use Rattle.read_block.proofs.Answered.{answered-as}
-use Rattle.read_block.proofs.Parts.{first-line-kept, first-line-left-out}
+use Rattle.read_block.proofs.Answered.{answered_as}
+use Rattle.read_block.proofs.Parts.{first_line_kept, first_line_left_out}
 use Rattle.read_block.proofs.read_source.Statement.{statement}
 use Rattle.read_block.proofs.read_source.Tie as tie
 
@@ -48,8 +48,8 @@ returns c =
     let end = test.before.before.text-end in
     let start = test.before.before.before.before.text-start in
     let args = test.before.before.before.before.before.before.before.args in
-    let v = first-line-kept args.s.now _ end.result n.result start.ensures end.ensures test.if1.true in
-    answered-as _ _ args.out.now c.before.before.write-value.ensures (v first.result first.ensures n.ensures)
+    let v = first_line_kept args.s.now _ end.result n.result start.ensures end.ensures test.if1.true in
+    answered_as _ _ args.out.now c.before.before.write-value.ensures (v first.result first.ensures n.ensures)
 
 common-indent-requires-2 : tie.Need-common-indent-requires-2
 common-indent-requires-2 c κs = search rules
@@ -72,8 +72,8 @@ returns-2 c =
     let start = test.before.before.before.before.text-start in
     let args = test.before.before.before.before.before.before.before.args in
     let some : 0 < start.result = omega (arith, test.if1.false) in
-    let v = first-line-left-out args.s.now _ end.result n.result start.ensures end.ensures some in
-    answered-as _ _ args.out.now c.before.before.write-value2.ensures (v n.ensures place.result place.ensures)
+    let v = first_line_left_out args.s.now _ end.result n.result start.ensures end.ensures some in
+    answered_as _ _ args.out.now c.before.before.write-value2.ensures (v n.ensures place.result place.ensures)
 
 pub read-source-spec : {M : Type 1} → statement M
 read-source-spec =

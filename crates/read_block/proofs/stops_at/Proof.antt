@@ -1,6 +1,6 @@
 -- `read_block::stops_at` tells a line end or an escape at a place, by the two tests that it calls.
 use borrow.Author.Rules.{rules}
-use Rattle.read_block_laws.specs.Text.{stops-by}
+use Rattle.read_block_laws.specs.Text.{stops_by}
 use Rattle.read_block.proofs.stops_at.Statement.{statement}
 use Rattle.read_block.proofs.stops_at.Tie as tie
 
@@ -14,7 +14,7 @@ is-escape-requires : tie.Need-is-escape-requires
 is-escape-requires c κs = search rules
 
 returns : tie.Need-returns
-returns c = rw (c.before.is-line-end.ensures, c.is-escape.ensures) (stops-by _ _ c.before.before.before.before.requires)
+returns c = rw (c.before.is-line-end.ensures, c.is-escape.ensures) (stops_by _ _ c.before.before.before.before.requires)
 
 pub stops-at-spec : {M : Type 1} → statement M
 stops-at-spec =

@@ -1,8 +1,8 @@
 -- `read_block::text_end` finds the end of the last line that is not blank: from its place on there are only blanks and line ends.
 use mathlib.Core.Path.{refl, sym, ◌∙◌}
 use borrow.Author.Rules.{rules}
-use Rattle.base.specs.Bools.{not-true, not-false}
-use Rattle.read_block_laws.specs.TrimmedEnd.{WhiteFrom, white-from-end, white-from-before, text-line-ends, nothing_ends}
+use Rattle.base.specs.Bools.{not_true, not_false}
+use Rattle.read_block_laws.specs.TrimmedEnd.{WhiteFrom, white_from_end, white_from_before, text_line_ends, nothing_ends}
 use Rattle.read_block.proofs.text_end.Statement.{statement}
 use Rattle.read_block.proofs.text_end.Tie as tie
 
@@ -13,7 +13,7 @@ abbrev decreases-loop : tie.decreases-loop
 decreases-loop s j₀ j = j
 
 loop-holds : tie.Need-loop-init invariant-loop decreases-loop
-loop-holds c = white-from-end _ _ refl
+loop-holds c = white_from_end _ _ refl
 
 sub-is-white : tie.Need-overflow-sub-is-white invariant-loop decreases-loop
 sub-is-white c = search rules
@@ -31,8 +31,8 @@ returns : tie.Need-returns invariant-loop decreases-loop
 returns c =
     let turn = c.before.before.before.before in
     let l = turn.before.loop in
-    let text = sym c.before.before.is_white.ensures ∙ not-true _ c.before.if1.true in
-    text-line-ends _ l.j l.invariant turn.loop-test.true text _ c.line-end.ensures
+    let text = sym c.before.before.is_white.ensures ∙ not_true _ c.before.if1.true in
+    text_line_ends _ l.j l.invariant turn.loop-test.true text _ c.line-end.ensures
 
 sub-j : tie.Need-overflow-sub-j invariant-loop decreases-loop
 sub-j c = search rules
@@ -44,7 +44,7 @@ loop-again : tie.Need-loop-preserved invariant-loop decreases-loop
 loop-again c =
     let turn = c.before.before.before in
     let l = turn.before.loop in
-    white-from-before _ l.j l.invariant turn.loop-test.true (sym c.before.is_white.ensures ∙ not-false _ c.if1.false)
+    white_from_before _ l.j l.invariant turn.loop-test.true (sym c.before.is_white.ensures ∙ not_false _ c.if1.false)
 
 returns-2 : tie.Need-returns-2 invariant-loop decreases-loop
 returns-2 c = nothing_ends _ _ c.before.loop.invariant c.loop-test.false

@@ -5,9 +5,9 @@ use Prim.Native.Nat.{◌-◌}
 use native.Mathlib.Omega.{arith}
 use lib.ListN.{length, drop}
 use borrow.Author.Rules.{rules}
-use Rattle.pen.specs.Wrote.{wrote-length, Left, left-all, left_step, left-done, left_as}
-use Rattle.read_block_laws.specs.Text.{text_of, run-is-written, escape-is-written, escape-is-within, line-end-is-written, line-end-within, nothing-is-written}
-use Rattle.read_block_laws.specs.Counts.{run-ends-within, run-ends-before}
+use Rattle.pen.specs.Wrote.{wrote_length, Left, left_all, left_step, left_done, left_as}
+use Rattle.read_block_laws.specs.Text.{text_of, run_is_written, escape_is_written, escape_is_within, line_end_is_written, line_end_within, nothing_is_written}
+use Rattle.read_block_laws.specs.Counts.{run_ends_within, run_ends_before}
 use Rattle.read_block.proofs.write_text.Statement.{statement}
 use Rattle.read_block.proofs.write_text.Tie as tie
 
@@ -19,7 +19,7 @@ abbrev decreases-loop : tie.decreases-loop
 decreases-loop out₀ s from n i₀ p₀ t9 out i p = length s - i
 
 loop-holds : tie.Need-loop-init invariant-loop decreases-loop
-loop-holds c = (left-all (search rules), refl)
+loop-holds c = (left_all (search rules), refl)
 
 run-end-requires : tie.Need-run-end-requires invariant-loop decreases-loop
 run-end-requires c κs = search rules
@@ -32,7 +32,7 @@ part-write-start c =
     let run = c.before in
     let turn = run.before in
     let s = turn.before.before.before.before.args.s.now in
-    let w = run-ends-within s turn.before.loop.i run.run-end.result turn.loop-test.true run.run-end.ensures in
+    let w = run_ends_within s turn.before.loop.i run.run-end.result turn.loop-test.true run.run-end.ensures in
     search rules
 
 part-write-end : tie.Need-slice-bounds-write-end invariant-loop decreases-loop
@@ -40,7 +40,7 @@ part-write-end c =
     let run = c.before in
     let turn = run.before in
     let s = turn.before.before.before.before.args.s.now in
-    let w = run-ends-within s turn.before.loop.i run.run-end.result turn.loop-test.true run.run-end.ensures in
+    let w = run_ends_within s turn.before.loop.i run.run-end.result turn.loop-test.true run.run-end.ensures in
     search rules
 
 write-requires : tie.Need-write-requires invariant-loop decreases-loop
@@ -57,15 +57,15 @@ returns c =
     let args = run.before.before.before.before.before.args in
     let s = args.s.now in
     let e = run.run-end.result in
-    let a = left_as l.invariant.0 (run-is-written args.n s l.i e run.run-end.ensures) in
-    let over = nothing-is-written args.n s e (omega (arith, c.if1.true)) in
-    left-done (left_as (left_step a w.write.ensures) over)
+    let a = left_as l.invariant.0 (run_is_written args.n s l.i e run.run-end.ensures) in
+    let over = nothing_is_written args.n s e (omega (arith, c.if1.true)) in
+    left_done (left_as (left_step a w.write.ensures) over)
 
 shared-slice-read-if2 : tie.Need-shared-slice-read-if2 invariant-loop decreases-loop
 shared-slice-read-if2 c =
     let run = c.before.before.before.before.before.before.before in
     let turn = run.before in
-    run-ends-before _ turn.before.loop.i _ turn.loop-test.true run.run-end.ensures c.before.if1.false
+    run_ends_before _ turn.before.loop.i _ turn.loop-test.true run.run-end.ensures c.before.if1.false
 
 slice-aggregate-write : tie.Need-slice-aggregate-write invariant-loop decreases-loop
 slice-aggregate-write c = search rules
@@ -84,8 +84,8 @@ add-i c =
     let s = f.args.s.now in
     let e = run.run-end.result in
     let r = run.run-end.ensures in
-    let more = run-ends-before s l.i e turn.loop-test.true r test.if1.false in
-    omega (arith, f.ranges, escape-is-within f.args.n s l.i e r more escape.if2.true)
+    let more = run_ends_before s l.i e turn.loop-test.true r test.if1.false in
+    omega (arith, f.ranges, escape_is_within f.args.n s l.i e r more escape.if2.true)
 
 loop-less : tie.Need-loop-smaller invariant-loop decreases-loop
 loop-less c =
@@ -105,10 +105,10 @@ loop-again c =
     let s = args.s.now in
     let e = run.run-end.result in
     let r = run.run-end.ensures in
-    let more = run-ends-before s l.i e turn.loop-test.true r test.if1.false in
-    let a = left_step (left_as l.invariant.0 (run-is-written args.n s l.i e r)) w.write.ensures in
-    let b = left_as a (escape-is-written args.n s l.i e r more escape.if2.true) in
-    (left_step b quotes.write2.ensures, wrote-length quotes.write2.ensures ∙ wrote-length w.write.ensures ∙ l.invariant.1)
+    let more = run_ends_before s l.i e turn.loop-test.true r test.if1.false in
+    let a = left_step (left_as l.invariant.0 (run_is_written args.n s l.i e r)) w.write.ensures in
+    let b = left_as a (escape_is_written args.n s l.i e r more escape.if2.true) in
+    (left_step b quotes.write2.ensures, wrote_length quotes.write2.ensures ∙ wrote_length w.write.ensures ∙ l.invariant.1)
 
 write-byte-requires : tie.Need-write-byte-requires invariant-loop decreases-loop
 write-byte-requires c κs = search rules
@@ -118,7 +118,7 @@ past-line-end-requires c κs =
     let test = c.before.before.before.before.before.before in
     let run = test.before.before.before.before.before.before in
     let turn = run.before in
-    run-ends-before _ turn.before.loop.i _ turn.loop-test.true run.run-end.ensures test.if1.false
+    run_ends_before _ turn.before.loop.i _ turn.loop-test.true run.run-end.ensures test.if1.false
 
 past-indent-requires : tie.Need-past-indent-requires invariant-loop decreases-loop
 past-indent-requires c κs = search rules
@@ -132,7 +132,7 @@ loop-less-2 c =
     let s = turn.before.before.before.before.args.s.now in
     let e = run.run-end.result in
     let r = run.run-end.ensures in
-    let k = line-end-within s e (run-ends-before s l.i e turn.loop-test.true r test.if1.false) in
+    let k = line_end_within s e (run_ends_before s l.i e turn.loop-test.true r test.if1.false) in
     omega (arith, k.0, r, c.before.past-line-end.ensures, c.past-indent.ensures, turn.loop-test.true)
 
 loop-again-2 : tie.Need-loop-preserved-2 invariant-loop decreases-loop
@@ -149,11 +149,11 @@ loop-again-2 c =
     let r = run.run-end.ensures in
     let f = c.before.past-line-end in
     let g = c.past-indent in
-    let more = run-ends-before s l.i run.run-end.result turn.loop-test.true r test.if1.false in
-    let a = left_step (left_as l.invariant.0 (run-is-written args.n s l.i run.run-end.result r)) w.write.ensures in
-    let b = line-end-is-written args.n s l.i _ r more end.if2.false f.result g.result f.ensures g.ensures in (
+    let more = run_ends_before s l.i run.run-end.result turn.loop-test.true r test.if1.false in
+    let a = left_step (left_as l.invariant.0 (run_is_written args.n s l.i run.run-end.result r)) w.write.ensures in
+    let b = line_end_is_written args.n s l.i _ r more end.if2.false f.result g.result f.ensures g.ensures in (
       left_step (left_as a b) byte.write_byte.ensures,
-      wrote-length byte.write_byte.ensures ∙ wrote-length w.write.ensures ∙ l.invariant.1,
+      wrote_length byte.write_byte.ensures ∙ wrote_length w.write.ensures ∙ l.invariant.1,
     )
 
 same-length-2 : tie.Need-same-length-2 invariant-loop decreases-loop
@@ -162,7 +162,7 @@ same-length-2 c = search rules
 returns-2 : tie.Need-returns-2 invariant-loop decreases-loop
 returns-2 c =
     let l = c.before.loop in
-    left-done (left_as l.invariant.0 (nothing-is-written _ _ l.i c.loop-test.false))
+    left_done (left_as l.invariant.0 (nothing_is_written _ _ l.i c.loop-test.false))
 
 pub write-text-spec : {M : Type 1} → statement M
 write-text-spec =

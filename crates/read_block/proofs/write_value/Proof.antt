@@ -6,8 +6,8 @@ use lib.ListN.{length, drop}
 use borrow.Author.Rules.{rules}
 use Rattle.pen.specs.Put.{last}
 use Rattle.read_block_laws.specs.Text.{text_of}
-use Rattle.read_block_laws.specs.Short.{rest-is-short}
-use Rattle.read_block.proofs.Answered.{value-is-written, room-is-short, measured-value-is-written}
+use Rattle.read_block_laws.specs.Short.{rest_is_short}
+use Rattle.read_block.proofs.Answered.{value_is_written, room_is_short, measured_value_is_written}
 use Rattle.read_block.proofs.write_value.Statement.{statement}
 use Rattle.read_block.proofs.write_value.Tie as tie
 
@@ -30,8 +30,8 @@ returns c =
     let args = test.before.before.before.before.args in
     let s = args.s.now in
     let v = text_of args.n (drop args.from s) in
-    let fits : length v ≤ length args.out.now = omega (arith, rest-is-short args.n s args.from, test.if1.true) in
-    value-is-written v _ _ _ _ _ test.before.start.ensures w.write-text.ensures fits c.value_of_lem.ensures
+    let fits : length v ≤ length args.out.now = omega (arith, rest_is_short args.n s args.from, test.if1.true) in
+    value_is_written v _ _ _ _ _ test.before.start.ensures w.write-text.ensures fits c.value_of_lem.ensures
 
 slice-relend-prefix-write-text : tie.Need-slice-relend-prefix-write-text
 slice-relend-prefix-write-text c = search rules
@@ -52,8 +52,8 @@ returns-2 c =
     let args = start.before.before.before.args in
     let s = args.s.now in
     let v = text_of args.n (drop args.from s) in
-    let short : length v ≤ last = omega (arith, rest-is-short args.n s args.from) in
-    room-is-short v _ _ _ _ start.start.ensures measured.write-text2.ensures short c.if2.true
+    let short : length v ≤ last = omega (arith, rest_is_short args.n s args.from) in
+    room_is_short v _ _ _ _ start.start.ensures measured.write-text2.ensures short c.if2.true
 
 write-text-requires-3 : tie.Need-write-text-requires-3
 write-text-requires-3 c κs = search rules
@@ -72,8 +72,8 @@ returns-3 c =
     let args = start.before.before.before.args in
     let s = args.s.now in
     let v = text_of args.n (drop args.from s) in
-    let short : length v ≤ last = omega (arith, rest-is-short args.n s args.from) in
-    measured-value-is-written v _ _ _ _ start.start.ensures measured.write-text2.ensures short _ _ _
+    let short : length v ≤ last = omega (arith, rest_is_short args.n s args.from) in
+    measured_value_is_written v _ _ _ _ start.start.ensures measured.write-text2.ensures short _ _ _
     test.if2.false c.before.before.before.write-text3.ensures c.value-of2.ensures
 
 pub write-value-spec : {M : Type 1} → statement M

@@ -2,7 +2,7 @@
 -- its text. Where there is room the second walk writes the same value.
 use native.Mathlib.Omega.{arith}
 use borrow.Author.Rules.{rules}
-use Rattle.read_quoted.specs.Outcomes.{no_value, value-too-long, value_written}
+use Rattle.read_quoted.specs.Outcomes.{no_value, value_too_long, value_written}
 use Rattle.read_quoted.proofs.read_quoted.Statement.{statement}
 use Rattle.read_quoted.proofs.read_quoted.Tie as tie
 
@@ -40,7 +40,7 @@ returns-2 c =
     let m = c.before.before.before.before in
     let w = m.before.before.before.before in
     let start = w.before.before.before.before.before in
-    value-too-long start.args.text.now _ _ _ _ (omega (arith, start.well-formed)) w.before.start.ensures
+    value_too_long start.args.text.now _ _ _ _ (omega (arith, start.well-formed)) w.before.start.ensures
     (rw m.decreases.given.1 at w.walk.ensures)
     c.if1.true
 

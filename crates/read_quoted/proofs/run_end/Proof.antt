@@ -4,13 +4,13 @@ use mathlib.Core.Path.{◌≡◌, sym, ◌∙◌}
 use Prim.Native.Nat.{◌+◌, ◌-◌}
 use lib.ListN.{length, drop}
 use borrow.Author.Rules.{rules}
-use Rattle.base.specs.Bools.{not-true, not-false}
-use Rattle.read_quoted.specs.Runs.{plainRun, run-over, run-goes-on, run-stops, run-goes-on-behind}
+use Rattle.base.specs.Bools.{not_true, not_false}
+use Rattle.read_quoted.specs.Runs.{plain_run, run_over, run_goes_on, run_stops, run_goes_on_behind}
 use Rattle.read_quoted.proofs.run_end.Statement.{statement}
 use Rattle.read_quoted.proofs.run_end.Tie as tie
 
 abbrev invariant-loop : tie.invariant-loop
-invariant-loop table text from e₀ e = e + plainRun (drop e text) ≡ from + plainRun (drop from text)
+invariant-loop table text from e₀ e = e + plain_run (drop e text) ≡ from + plain_run (drop from text)
 
 abbrev decreases-loop : tie.decreases-loop
 decreases-loop table text from e₀ e = length text - e
@@ -19,7 +19,7 @@ next-escape-requires : tie.Need-next-escape-requires invariant-loop decreases-lo
 next-escape-requires c κs = search rules
 
 loop-holds : tie.Need-loop-init invariant-loop decreases-loop
-loop-holds c = run-goes-on-behind _ _ _ c.next-escape.ensures
+loop-holds c = run_goes_on_behind _ _ _ c.next-escape.ensures
 
 shared-slice-read-is-plain : tie.Need-shared-slice-read-is-plain invariant-loop decreases-loop
 shared-slice-read-is-plain c = search rules
@@ -30,8 +30,8 @@ is-plain-requires c κs = search rules
 returns : tie.Need-returns invariant-loop decreases-loop
 returns c =
     let t = c.before.before.before in
-    let other = sym c.before.is_plain.ensures ∙ not-true c.before.is_plain.result c.if1.true in
-    run-stops _ _ t.loop-test.true other ∙ t.before.loop.invariant
+    let other = sym c.before.is_plain.ensures ∙ not_true c.before.is_plain.result c.if1.true in
+    run_stops _ _ t.loop-test.true other ∙ t.before.loop.invariant
 
 add-next-escape : tie.Need-overflow-add-next-escape invariant-loop decreases-loop
 add-next-escape c = search rules
@@ -46,11 +46,11 @@ loop-again : tie.Need-loop-preserved invariant-loop decreases-loop
 loop-again c =
     let i = c.before in
     let t = i.before.before.before in
-    let plain = sym i.before.is_plain.ensures ∙ not-false i.before.is_plain.result i.if1.false in
-    run-goes-on-behind _ _ _ c.next-escape2.ensures ∙ sym (run-goes-on _ _ t.loop-test.true plain) ∙ t.before.loop.invariant
+    let plain = sym i.before.is_plain.ensures ∙ not_false i.before.is_plain.result i.if1.false in
+    run_goes_on_behind _ _ _ c.next-escape2.ensures ∙ sym (run_goes_on _ _ t.loop-test.true plain) ∙ t.before.loop.invariant
 
 returns-2 : tie.Need-returns-2 invariant-loop decreases-loop
-returns-2 c = run-over _ _ c.loop-test.false ∙ c.before.loop.invariant
+returns-2 c = run_over _ _ c.loop-test.false ∙ c.before.loop.invariant
 
 pub run-end-spec : {M : Type 1} → statement M
 run-end-spec =

@@ -1,7 +1,7 @@
 -- Too few bytes are wrong, and four are looked at by their values: each below 16, and the number that they write no surrogate.
 use native.Mathlib.Omega.{arith}
 use borrow.Author.Rules.{rules}
-use Rattle.read_quoted.specs.Escapes.{Digits, too-few-digits, first-is-no-digit, second-is-no-digit, third-is-no-digit, fourth-is-no-digit, surrogate-is-wrong, below-surrogates, past-surrogates}
+use Rattle.read_quoted.specs.Escapes.{Digits, too_few_digits, first_is_no_digit, second_is_no_digit, third_is_no_digit, fourth_is_no_digit, surrogate_is_wrong, below_surrogates, past_surrogates}
 use Rattle.read_quoted.proofs.unicode_escape.Statement.{statement}
 use Rattle.read_quoted.proofs.unicode_escape.Tie as tie
 
@@ -30,7 +30,7 @@ sub-if1 : tie.Need-overflow-sub-if1
 sub-if1 c = search rules
 
 returns : tie.Need-returns
-returns c = too-few-digits _ _ c.before.before.requires c.if1.true
+returns c = too_few_digits _ _ c.before.before.requires c.if1.true
 
 add-hex-value : tie.Need-overflow-add-hex-value
 add-hex-value c = search rules
@@ -69,16 +69,16 @@ hex-value-requires-4 : tie.Need-hex-value-requires-4
 hex-value-requires-4 c κs = search rules
 
 returns-2 : tie.Need-returns-2
-returns-2 c = first-is-no-digit (four c.before) c.if2.true
+returns-2 c = first_is_no_digit (four c.before) c.if2.true
 
 returns-3 : tie.Need-returns-3
-returns-3 c = second-is-no-digit (four c.before.before) c.if3.true
+returns-3 c = second_is_no_digit (four c.before.before) c.if3.true
 
 returns-4 : tie.Need-returns-4
-returns-4 c = third-is-no-digit (four c.before.before.before) c.if4.true
+returns-4 c = third_is_no_digit (four c.before.before.before) c.if4.true
 
 returns-5 : tie.Need-returns-5
-returns-5 c = fourth-is-no-digit (four c.before.before.before.before) c.if5.true
+returns-5 c = fourth_is_no_digit (four c.before.before.before.before) c.if5.true
 
 mul-n : tie.Need-overflow-mul-n
 mul-n c = search rules
@@ -102,16 +102,16 @@ returns-6 : tie.Need-returns-6
 returns-6 c =
     let e = c.before in
     let b = e.before.before in
-    below-surrogates (four b.before.before) b.before.if2.false b.if3.false e.before.if4.false e.if5.false c.if6.true
+    below_surrogates (four b.before.before) b.before.if2.false b.if3.false e.before.if4.false e.if5.false c.if6.true
 
 returns-7 : tie.Need-returns-7
 returns-7 c =
     let e = c.before.before in
     let b = e.before.before in
-    past-surrogates (four b.before.before) b.before.if2.false b.if3.false e.before.if4.false e.if5.false c.if7.true
+    past_surrogates (four b.before.before) b.before.if2.false b.if3.false e.before.if4.false e.if5.false c.if7.true
 
 returns-8 : tie.Need-returns-8
-returns-8 c = surrogate-is-wrong (four c.before.before.before.before.before.before) c.before.if6.false c.if7.false
+returns-8 c = surrogate_is_wrong (four c.before.before.before.before.before.before) c.before.if6.false c.if7.false
 
 pub unicode-escape-spec : {M : Type 1} → statement M
 unicode-escape-spec =

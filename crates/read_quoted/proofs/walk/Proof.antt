@@ -6,16 +6,16 @@ use Prim.Native.Nat.{ℕ, ◌+◌, ◌-◌, ◌≤◌}
 use native.Mathlib.Omega.{arith}
 use lib.ListN.{length, drop, length-drop}
 use borrow.Author.Rules.{rules}
-use Rattle.meaning.specs.Reading.{escape, quotedFront, characters}
-use Rattle.read_quoted.specs.Escapes.{Stands, answered-scalar, answered-wrong}
-use Rattle.read_quoted.specs.Walks.{Midway, nothing-done, some-done, left-says, all_done, none_left, not-closed, closed-at-the-end, goes-on-when-closed, wrong-escape, escape-read, line-end}
-use Rattle.read_quoted.specs.Runs.{run-read, run-end-within, run_ends}
+use Rattle.meaning.specs.Reading.{escape, quoted_front, characters}
+use Rattle.read_quoted.specs.Escapes.{Stands, answered_scalar, answered_wrong}
+use Rattle.read_quoted.specs.Walks.{Midway, nothing_done, some_done, left_says, all_done, none_left, not_closed, closed_at_the_end, goes_on_when_closed, wrong_escape, escape_read, line_end}
+use Rattle.read_quoted.specs.Runs.{run_read, run_end_within, run_ends}
 use Rattle.read_quoted.proofs.walk.Statement.{statement}
 use Rattle.read_quoted.proofs.walk.Tie as tie
 
 abbrev invariant-loop : tie.invariant-loop
 invariant-loop table text out₀ i₀ p₀ out i p =
-    Midway (characters quotedFront 0 (drop 1 text)) out₀ p₀ out p (characters quotedFront 0 (drop i text))
+    Midway (characters quoted_front 0 (drop 1 text)) out₀ p₀ out p (characters quoted_front 0 (drop i text))
     × (length out ≡ length out₀)
 
 abbrev decreases-loop : tie.decreases-loop
@@ -35,7 +35,7 @@ abbrev end : Found → ℕ
 end f = f.run-end.result
 
 inside : (f : Found) → (f.before.before.loop.i ≤ end f) × (end f ≤ length (text f))
-inside f = run-end-within _ _ _ f.run-end.ensures (search rules)
+inside f = run_end_within _ _ _ f.run-end.ensures (search rules)
 
 -- where the run is written
 abbrev Copied : Type 0
@@ -45,12 +45,12 @@ abbrev found : Copied → Found
 found w = w.before.before.before.before.before
 
 copied : (w : Copied)
-    → Midway (characters quotedFront 0 (drop 1 (text (found w)))) (start (found w)).args.out.now (start (found w)).args.pen
+    → Midway (characters quoted_front 0 (drop 1 (text (found w)))) (start (found w)).args.out.now (start (found w)).args.pen
     w.before.before.write.last.0 w.before.before.write.result
-    (characters quotedFront 0 (drop (end (found w)) (text (found w))))
+    (characters quoted_front 0 (drop (end (found w)) (text (found w))))
 copied w =
     let f = found w in
-    some-done (left-says f.before.before.loop.inv.0 (run-read _ _ _ f.run-end.ensures)) w.before.before.write.ensures
+    some_done (left_says f.before.before.loop.inv.0 (run_read _ _ _ f.run-end.ensures)) w.before.before.write.ensures
 
 -- where the escape behind the run is taken apart: it stands for n, in k bytes after its backslash
 abbrev Apart : Type 0
@@ -72,7 +72,7 @@ abbrev left : Apart → List ℕ
 left x = drop (place x) (text (found (written x)))
 
 escaped : (x : Apart) → Stands (left x) (escape (left x)) (n x) (k x)
-escaped x = answered-scalar x.before.before.escape.ensures x.x.given.1
+escaped x = answered_scalar x.before.before.escape.ensures x.x.given.1
 
 next-inside : (x : Apart) → place x + k x ≤ length (text (found (written x)))
 next-inside x =
@@ -80,7 +80,7 @@ next-inside x =
     omega (arith, (escaped x).within, room, x.before.before.before.before.before.before.if1.left)
 
 loop-holds : tie.Need-loop-init invariant-loop decreases-loop
-loop-holds c = (nothing-done (omega arith), refl)
+loop-holds c = (nothing_done (omega arith), refl)
 
 run-end-requires : tie.Need-run-end-requires invariant-loop decreases-loop
 run-end-requires c κs = search rules
@@ -101,7 +101,7 @@ same_length : tie.Need-same-length invariant-loop decreases-loop
 same_length c = search rules
 
 returns : tie.Need-returns invariant-loop decreases-loop
-returns c = none_left (left-says (copied c.before) (not-closed _ _ c.if1.true))
+returns c = none_left (left_says (copied c.before) (not_closed _ _ c.if1.true))
 
 shared-slice-read-b : tie.Need-shared-slice-read-b invariant-loop decreases-loop
 shared-slice-read-b c = search rules
@@ -116,7 +116,7 @@ returns-2 : tie.Need-returns-2 invariant-loop decreases-loop
 returns-2 c =
     let w = c.before.before.before.before in
     let h = c.before.before.before.if1.false in
-    all_done (left-says (copied w) (closed-at-the-end _ _ h c.before.if2.true c.if3.true))
+    all_done (left_says (copied w) (closed_at_the_end _ _ h c.before.if2.true c.if3.true))
 
 same-length-3 : tie.Need-same-length-3 invariant-loop decreases-loop
 same-length-3 c = search rules
@@ -125,7 +125,7 @@ returns-3 : tie.Need-returns-3 invariant-loop decreases-loop
 returns-3 c =
     let w = c.before.before.before.before in
     let h = c.before.before.before.if1.false in
-    none_left (left-says (copied w) (goes-on-when-closed _ _ h c.before.if2.true c.if3.false))
+    none_left (left_says (copied w) (goes_on_when_closed _ _ h c.before.if2.true c.if3.false))
 
 same-length-4 : tie.Need-same-length-4 invariant-loop decreases-loop
 same-length-4 c = search rules
@@ -135,7 +135,7 @@ returns-4 c =
     let w = c.before.before.before.before in
     let h = c.before.before.before.if1.false in
     none_left
-    (left-says (copied w) (line-end _ _ h c.before.if2.false c.if4.true (run_ends _ _ _ (found w).run-end.ensures h)))
+    (left_says (copied w) (line_end _ _ h c.before.if2.false c.if4.true (run_ends _ _ _ (found w).run-end.ensures h)))
 
 add-escape : tie.Need-overflow-add-escape invariant-loop decreases-loop
 add-escape c = search rules
@@ -156,8 +156,8 @@ returns-5 : tie.Need-returns-5 invariant-loop decreases-loop
 returns-5 c =
     let t = c.before.before.before in
     let w = t.before.before.before.before in
-    let wrong = answered-wrong _ c.before.before.escape.ensures c.enum_told.given.1 in
-    none_left (left-says (copied w) (wrong-escape _ _ t.before.before.before.if1.false t.if4.false wrong))
+    let wrong = answered_wrong _ c.before.before.escape.ensures c.enum_told.given.1 in
+    none_left (left_says (copied w) (wrong_escape _ _ t.before.before.before.if1.false t.if4.false wrong))
 
 write-scalar-requires : tie.Need-write-scalar-requires invariant-loop decreases-loop
 write-scalar-requires c κs = (escaped c.before.before).bound
@@ -177,8 +177,8 @@ loop-again : tie.Need-loop-preserved invariant-loop decreases-loop
 loop-again c = (
   let x = c.before.before.before.before.before in
       let t = x.before.before.before in
-      let read = escape-read _ _ t.before.before.before.if1.false _ _ t.if4.false (escaped x) in
-      some-done (left-says (copied (written x)) read) c.before.before.write-scalar.ensures,
+      let read = escape_read _ _ t.before.before.before.if1.false _ _ t.if4.false (escaped x) in
+      some_done (left_says (copied (written x)) read) c.before.before.write-scalar.ensures,
   search rules,
 )
 
@@ -186,7 +186,7 @@ same-length-6 : tie.Need-same-length-6 invariant-loop decreases-loop
 same-length-6 c = search rules
 
 returns-6 : tie.Need-returns-6 invariant-loop decreases-loop
-returns-6 c = none_left (left-says c.before.loop.invariant.0 (not-closed _ _ c.loop-test.false))
+returns-6 c = none_left (left_says c.before.loop.invariant.0 (not_closed _ _ c.loop-test.false))
 
 pub walk-spec : {M : Type 1} → statement M
 walk-spec =

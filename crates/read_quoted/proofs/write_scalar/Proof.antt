@@ -2,7 +2,7 @@
 use mathlib.Core.Path.{sym}
 use borrow.Author.Rules.{rules}
 use Rattle.pen.specs.Wrote.{wrote_as}
-use Rattle.read_quoted.specs.Encodings.{in-one-byte, in-two-bytes, in-three-bytes, in-four-bytes}
+use Rattle.read_quoted.specs.Encodings.{in_one_byte, in_two_bytes, in_three_bytes, in_four_bytes}
 use Rattle.read_quoted.proofs.write_scalar.Statement.{statement}
 use Rattle.read_quoted.proofs.write_scalar.Tie as tie
 
@@ -16,7 +16,7 @@ same_length : tie.Need-same-length
 same_length c = search rules
 
 returns : tie.Need-returns
-returns c = let w = c.before.before in wrote_as w.write_byte.ensures (sym (in-one-byte _ w.before.before.if1.true))
+returns c = let w = c.before.before in wrote_as w.write_byte.ensures (sym (in_one_byte _ w.before.before.if1.true))
 
 add-last : tie.Need-overflow-add-last
 add-last c = search rules
@@ -43,7 +43,7 @@ returns-2 : tie.Need-returns-2
 returns-2 c =
     let w = c.before.before in
     let t = w.before.before.before in
-    wrote_as w.write.ensures (sym (in-two-bytes _ t.before.if1.false t.if2.true))
+    wrote_as w.write.ensures (sym (in_two_bytes _ t.before.if1.false t.if2.true))
 
 add-third : tie.Need-overflow-add-third
 add-third c = search rules
@@ -70,7 +70,7 @@ returns-3 : tie.Need-returns-3
 returns-3 c =
     let w = c.before.before in
     let t = w.before.before.before in
-    wrote_as w.write2.ensures (sym (in-three-bytes _ t.before.if2.false t.if3.true))
+    wrote_as w.write2.ensures (sym (in_three_bytes _ t.before.if2.false t.if3.true))
 
 add-second : tie.Need-overflow-add-second
 add-second c = search rules
@@ -94,7 +94,7 @@ same-length-4 : tie.Need-same-length-4
 same-length-4 c = search rules
 
 returns-4 : tie.Need-returns-4
-returns-4 c = let w = c.before.before in wrote_as w.write3.ensures (sym (in-four-bytes _ w.before.before.before.if3.false))
+returns-4 c = let w = c.before.before in wrote_as w.write3.ensures (sym (in_four_bytes _ w.before.before.before.if3.false))
 
 pub write-scalar-spec : {M : Type 1} → statement M
 write-scalar-spec =

@@ -1,7 +1,7 @@
 -- `reader::read_literal` meets its contract: how the text begins tells which reader is right, or that none is.
 use native.Mathlib.Omega.{arith}
 use mathlib.Core.Path.{◌∙◌}
-use Rattle.reader.specs.Begins.{not-utf8, begins-with-three, is-empty, begins-with-another, begins-with-quote}
+use Rattle.reader.specs.Begins.{not_utf8, begins_with_three, is_empty_lem, begins_with_another, begins_with_quote}
 use borrow.Author.Rules.{rules}
 use Rattle.reader.proofs.read_literal.Statement.{statement}
 use Rattle.reader.proofs.read_literal.Tie as tie
@@ -10,7 +10,7 @@ is-utf8-requires : tie.Need-is-utf8-requires
 is-utf8-requires c κs = search rules
 
 returns : tie.Need-returns
-returns c = not-utf8 _ _ _ c.before.is-utf8.ensures c.if1.true
+returns c = not_utf8 _ _ _ c.before.is-utf8.ensures c.if1.true
 
 three-quotes-requires : tie.Need-three-quotes-requires
 three-quotes-requires c κs = search rules
@@ -25,12 +25,12 @@ returns-2 : tie.Need-returns-2
 returns-2 c =
     let r = c.before.before in
     let q = r.before.before.before in
-    r.read-block.ensures ∙ begins-with-three _ _ _ q.before.before.is-utf8.ensures q.before.if1.false _ q.three-quotes.ensures r.before.before.if2.true
+    r.read-block.ensures ∙ begins_with_three _ _ _ q.before.before.is-utf8.ensures q.before.if1.false _ q.three-quotes.ensures r.before.before.if2.true
 
 returns-3 : tie.Need-returns-3
 returns-3 c =
     let q = c.before.before in
-    is-empty _ _ _ q.before.before.is-utf8.ensures q.before.if1.false _ q.three-quotes.ensures c.before.if2.false c.if3.true
+    is_empty_lem _ _ _ q.before.before.is-utf8.ensures q.before.if1.false _ q.three-quotes.ensures c.before.if2.false c.if3.true
 
 shared-slice-read-if4 : tie.Need-shared-slice-read-if4
 shared-slice-read-if4 c = search rules
@@ -38,7 +38,7 @@ shared-slice-read-if4 c = search rules
 returns-4 : tie.Need-returns-4
 returns-4 c =
     let q = c.before.before.before.before in
-    begins-with-another _ _ _ q.before.before.is-utf8.ensures q.before.if1.false _ q.three-quotes.ensures c.before.before.before.if2.false (omega arith) c.if4.true
+    begins_with_another _ _ _ q.before.before.is-utf8.ensures q.before.if1.false _ q.three-quotes.ensures c.before.before.before.if2.false (omega arith) c.if4.true
 
 classes-requires : tie.Need-classes-requires
 classes-requires c κs = search rules
@@ -54,7 +54,7 @@ returns-5 c =
     let r = c.before.before in
     let i = r.before.before.before.before in
     let q = i.before.before.before.before in
-    r.read-quoted.ensures ∙ begins-with-quote _ _ _ q.before.before.is-utf8.ensures q.before.if1.false _ q.three-quotes.ensures i.before.before.before.if2.false (omega arith) i.if4.false
+    r.read-quoted.ensures ∙ begins_with_quote _ _ _ q.before.before.is-utf8.ensures q.before.if1.false _ q.three-quotes.ensures i.before.before.before.if2.false (omega arith) i.if4.false
 
 pub read-literal-spec : {M : Type 1} → statement M
 read-literal-spec =

@@ -1,20 +1,20 @@
 -- The printer of the nodes below definitions meets its contracts. Each function does the parts of its rule one after the other; the remaining
 -- depth falls from a node to its children, and within one depth the functions are ranked by who calls whom.
-use Rattle.base.specs.Arms.{past-from, last_of}
-use Rattle.serialize.specs.Kinds.{a-type, no-definition, past_all, no_kind}
-use Rattle.serialize.specs.Walks.{Run, run-all, run-turn, run-over, commas-some, commas-none, braces-some, braces-none, fewer-left, nothing_said}
-use Rattle.serialize.specs.Parts.{parts-of, jobs-kept, jobs-walked, one-done, jobs-deeper, jobs-single, jobs-lines, did-one, did-spaced, did-braces, did-commas, did-single-line, did-lines}
-use Rattle.types.specs.TypeJob.{type-job}
+use Rattle.base.specs.Arms.{past_from, last_of}
+use Rattle.serialize.specs.Kinds.{a_type, no-definition, past_all, no_kind}
+use Rattle.serialize.specs.Walks.{Run, run_all, run_turn, run_over, commas_some, commas_none, braces_some, braces_none, fewer_left, nothing_said}
+use Rattle.serialize.specs.Parts.{parts_of_lem, jobs_kept, jobs_walked, one_done, jobs_deeper, jobs_single, jobs_lines, did_one, did_spaced, did_braces, did_commas, did_single_line, did_lines}
+use Rattle.types.specs.TypeJob.{type_job}
 use Rattle.layout.specs.Child.{no_one}
-use Rattle.layout.specs.Did.{◌⨾◌, did-tokens, did-name, did-literal, a-child, no-child, node-written}
-use Rattle.layout.specs.Jobs.{rest-within, rest-inside, rest-ranged, node-in-table, first-job, here, job-in-table, job-text, job-deep}
-use Rattle.layout.specs.Written.{under, gapText, kept-none}
+use Rattle.layout.specs.Did.{◌⨾◌, did_tokens, did_name, did_literal, a_child, no_child, node_written}
+use Rattle.layout.specs.Jobs.{rest_within, rest_inside, rest_ranged, node_in_table, first_job, here, job_in_table, job_text, job_deep}
+use Rattle.layout.specs.Written.{under, gap_text, kept_none}
 use Rattle.layout.specs.Kids.{kids}
 use Rattle.layout.specs.Classes.{meant}
-use Rattle.pen.specs.Wrote.{wrote_as, wrote_none, wrote-length, left-length}
-use Rattle.meaning.specs.Rules.{singleLine, singleLineUnlessMarked, commaSeparated, curlyBrackets, token, sp, child, ruleOf}
-use Rattle.meaning.specs.Children.{a as ofKind, type, value}
-use Rattle.meaning.specs.Settings.{defaultSettings}
+use Rattle.pen.specs.Wrote.{wrote_as, wrote_none, wrote_length, left_length}
+use Rattle.meaning.specs.Rules.{single_line, single_line_unless_marked, comma_separated, curly_brackets, token, sp, child, rule_of}
+use Rattle.meaning.specs.Children.{a as of_kind, type, value}
+use Rattle.meaning.specs.Settings.{default_settings}
 use Rattle.meaning.specs.Ascii.{ascii}
 use borrow.Author.Rules.{rules}
 use lib.ListN.{length}
@@ -488,17 +488,17 @@ argument-token-requires : (t : ℕ) → argument-lts.Need-token-requires (claims
 argument-token-requires t c κs = tt
 
 argument-one-requires : (t : ℕ) → argument-lts.Need-one-requires (claims-argument t) (argument-at t) argument.Post
-argument-one-requires t c κs = (omega (arith, c.before.before.before.before.before.before.before.before.before.before.before.before.before.before.requires.0), here (jobs-kept (jobs-kept c.before.before.before.before.before.before.before.before.before.before.before.before.before.before.requires.1.jobs c.before.before.before.before.before.before.before.before.name.ensures) c.before.before.before.token.ensures))
+argument-one-requires t c κs = (omega (arith, c.before.before.before.before.before.before.before.before.before.before.before.before.before.before.requires.0), here (jobs_kept (jobs_kept c.before.before.before.before.before.before.before.before.before.before.before.before.before.before.requires.1.jobs c.before.before.before.before.before.before.before.before.name.ensures) c.before.before.before.token.ensures))
 
 argument-returns : (t : ℕ) → argument-lts.Need-returns (claims-argument t) (argument-at t) argument.Post
-unfolding ruleOf
-argument-returns t c = did-name c.before.before.before.before.before.before.before.before.before.before.before.name.ensures ⨾ did-tokens (token ":" ++ sp) refl c.before.before.before.before.before.before.token.ensures ⨾ did-one value c.before.before.one.ensures
+unfolding rule_of
+argument-returns t c = did_name c.before.before.before.before.before.before.before.before.before.before.before.name.ensures ⨾ did_tokens (token ":" ++ sp) refl c.before.before.before.before.before.before.token.ensures ⨾ did_one value c.before.before.one.ensures
 
 argument-same-length : (t : ℕ) → argument-lts.Need-same-length (claims-argument t) (argument-at t) argument.Post
-argument-same-length t c = wrote-length (argument-returns t c).walked.wrote
+argument-same-length t c = wrote_length (argument-returns t c).walked.wrote
 
 arguments-is-next-requires : (t : ℕ) → arguments-lts.Need-is-next-requires (claims-arguments t) (arguments-at t) arguments.Post
-arguments-is-next-requires t c κs = rest-within c.before.before.before.before.requires.1.rest
+arguments-is-next-requires t c κs = rest_within c.before.before.before.before.requires.1.rest
 
 arguments-slice-aggregate-commas :
     (t : ℕ) → arguments-lts.Need-slice-aggregate-commas (
@@ -526,19 +526,19 @@ arguments-on-single-line-requires : (t : ℕ) → arguments-lts.Need-on-single-l
 arguments-on-single-line-requires t c κs = tt
 
 arguments-commas-requires : (t : ℕ) → arguments-lts.Need-commas-requires (claims-arguments t) (arguments-at t) arguments.Post
-arguments-commas-requires t c κs = (omega (arith, c.before.before.before.before.before.before.before.before.before.before.requires.0), jobs-single c.before.before.before.before.before.before.before.before.before.before.args.state c.before.before.before.before.before.before.before.before.before.before.requires.1 c.before.on-single-line.ensures)
+arguments-commas-requires t c κs = (omega (arith, c.before.before.before.before.before.before.before.before.before.before.requires.0), jobs_single c.before.before.before.before.before.before.before.before.before.before.args.state c.before.before.before.before.before.before.before.before.before.before.requires.1 c.before.on-single-line.ensures)
 
 arguments-returns : (t : ℕ) → arguments-lts.Need-returns (claims-arguments t) (arguments-at t) arguments.Post
-arguments-returns t c = λ n. a-child _ (rest-ranged c.before.before.before.before.before.before.before.before.before.before.before.before.before.requires.1.rest) _ (sym c.before.before.before.before.before.before.before.before.is-next.ensures ∙ c.before.before.before.before.before.before.before.if1.true) (did-single-line _ (c.before.before.before.before.on-single-line.ensures _) c.before.before.commas.ensures)
+arguments-returns t c = λ n. a_child _ (rest_ranged c.before.before.before.before.before.before.before.before.before.before.before.before.before.requires.1.rest) _ (sym c.before.before.before.before.before.before.before.before.is-next.ensures ∙ c.before.before.before.before.before.before.before.if1.true) (did_single_line _ (c.before.before.before.before.on-single-line.ensures _) c.before.before.commas.ensures)
 
 arguments-same-length : (t : ℕ) → arguments-lts.Need-same-length (claims-arguments t) (arguments-at t) arguments.Post
-arguments-same-length t c = wrote-length (arguments-returns t c 0).walked.wrote
+arguments-same-length t c = wrote_length (arguments-returns t c 0).walked.wrote
 
 arguments-returns-2 : (t : ℕ) → arguments-lts.Need-returns-2 (claims-arguments t) (arguments-at t) arguments.Post
-arguments-returns-2 t c = λ n. no-child (commaSeparated singleLine (ascii "(") (ascii ")") (ofKind _) ∷ []) (rest-ranged c.before.before.before.before.before.before.requires.1.rest) _ refl (sym c.before.is-next.ensures ∙ c.if1.false) (kept-none (record { place = omega arith; size = omega arith }))
+arguments-returns-2 t c = λ n. no_child (comma_separated single_line (ascii "(") (ascii ")") (of_kind _) ∷ []) (rest_ranged c.before.before.before.before.before.before.requires.1.rest) _ refl (sym c.before.is-next.ensures ∙ c.if1.false) (kept_none (record { place = omega arith; size = omega arith }))
 
 arguments-def-is-next-requires : (t : ℕ) → arguments-def-lts.Need-is-next-requires (claims-arguments-def t) (arguments-def-at t) arguments-def.Post
-arguments-def-is-next-requires t c κs = rest-within c.before.before.before.before.requires.1.rest
+arguments-def-is-next-requires t c κs = rest_within c.before.before.before.before.requires.1.rest
 
 arguments-def-signature-requires :
     (t : ℕ) → arguments-def-lts.Need-signature-requires (
@@ -550,19 +550,19 @@ arguments-def-signature-requires :
 arguments-def-signature-requires t c κs = (omega (arith, c.before.before.before.before.before.before.before.requires.0), c.before.before.before.before.before.before.before.requires.1)
 
 arguments-def-returns : (t : ℕ) → arguments-def-lts.Need-returns (claims-arguments-def t) (arguments-def-at t) arguments-def.Post
-arguments-def-returns t c = λ n. a-child _ (rest-ranged c.before.before.before.before.before.before.before.before.before.before.requires.1.rest) (ofKind 22) (sym c.before.before.before.before.before.is-next.ensures ∙ c.before.before.before.before.if1.true) (c.before.before.signature.ensures n)
+arguments-def-returns t c = λ n. a_child _ (rest_ranged c.before.before.before.before.before.before.before.before.before.before.requires.1.rest) (of_kind 22) (sym c.before.before.before.before.before.is-next.ensures ∙ c.before.before.before.before.if1.true) (c.before.before.signature.ensures n)
 
 arguments-def-same-length : (t : ℕ) → arguments-def-lts.Need-same-length (claims-arguments-def t) (arguments-def-at t) arguments-def.Post
-arguments-def-same-length t c = wrote-length (arguments-def-returns t c 0).walked.wrote
+arguments-def-same-length t c = wrote_length (arguments-def-returns t c 0).walked.wrote
 
 arguments-def-returns-2 : (t : ℕ) → arguments-def-lts.Need-returns-2 (claims-arguments-def t) (arguments-def-at t) arguments-def.Post
-arguments-def-returns-2 t c = λ n. no-child (commaSeparated singleLineUnlessMarked (ascii "(") (ascii ")") (ofKind 22) ∷ []) (rest-ranged c.before.before.before.before.before.before.requires.1.rest) (ofKind 22) refl (sym c.before.is-next.ensures ∙ c.if1.false) (kept-none (record { place = omega arith; size = omega arith }))
+arguments-def-returns-2 t c = λ n. no_child (comma_separated single_line_unless_marked (ascii "(") (ascii ")") (of_kind 22) ∷ []) (rest_ranged c.before.before.before.before.before.before.requires.1.rest) (of_kind 22) refl (sym c.before.is-next.ensures ∙ c.if1.false) (kept_none (record { place = omega arith; size = omega arith }))
 
 commas-token-requires : (t : ℕ) → commas-lts.Need-token-requires (claims-commas t) (commas-at t) commas.Post
 commas-token-requires t c κs = tt
 
 commas-is-next-requires : (t : ℕ) → commas-lts.Need-is-next-requires (claims-commas t) (commas-at t) commas.Post
-commas-is-next-requires t c κs = rest-within c.before.before.before.before.before.before.before.before.before.before.requires.1.rest
+commas-is-next-requires t c κs = rest_within c.before.before.before.before.before.before.before.before.before.before.requires.1.rest
 
 commas-deeper-requires : (t : ℕ) → commas-lts.Need-deeper-requires (claims-commas t) (commas-at t) commas.Post
 commas-deeper-requires t c κs = omega (arith, c.before.before.before.before.before.before.before.before.before.before.before.before.requires.1.level)
@@ -571,10 +571,10 @@ commas-new-line-requires : (t : ℕ) → commas-lts.Need-new-line-requires (clai
 commas-new-line-requires t c κs = tt
 
 commas-one-requires : (t : ℕ) → commas-lts.Need-one-requires (claims-commas t) (commas-at t) commas.Post
-commas-one-requires t c κs = (omega (arith, c.before.before.before.before.before.before.before.before.before.before.before.before.before.before.before.before.before.before.requires.0), jobs-deeper _ (jobs-kept (jobs-kept c.before.before.before.before.before.before.before.before.before.before.before.before.before.before.before.before.before.before.requires.1 c.before.before.before.before.before.before.before.before.before.before.token.ensures) c.before.before.before.new_line.ensures) c.before.before.before.before.before.deeper.ensures)
+commas-one-requires t c κs = (omega (arith, c.before.before.before.before.before.before.before.before.before.before.before.before.before.before.before.before.before.before.requires.0), jobs_deeper _ (jobs_kept (jobs_kept c.before.before.before.before.before.before.before.before.before.before.before.before.before.before.before.before.before.before.requires.1 c.before.before.before.before.before.before.before.before.before.before.token.ensures) c.before.before.before.new_line.ensures) c.before.before.before.before.before.deeper.ensures)
 
 commas-each-requires : (t : ℕ) → commas-lts.Need-each-requires (claims-commas t) (commas-at t) commas.Post
-commas-each-requires t c κs = (omega (arith, c.before.before.before.before.before.before.before.before.before.before.before.before.before.before.before.before.before.before.before.before.before.before.requires.0), jobs-deeper _ (jobs-walked (jobs-kept (jobs-kept c.before.before.before.before.before.before.before.before.before.before.before.before.before.before.before.before.before.before.before.before.before.before.requires.1 c.before.before.before.before.before.before.before.before.before.before.before.before.before.before.token.ensures) c.before.before.before.before.before.before.before.new_line.ensures) c.before.before.before.one.ensures) c.before.before.before.before.before.before.before.before.before.deeper.ensures)
+commas-each-requires t c κs = (omega (arith, c.before.before.before.before.before.before.before.before.before.before.before.before.before.before.before.before.before.before.before.before.before.before.requires.0), jobs_deeper _ (jobs_walked (jobs_kept (jobs_kept c.before.before.before.before.before.before.before.before.before.before.before.before.before.before.before.before.before.before.before.before.before.before.requires.1 c.before.before.before.before.before.before.before.before.before.before.before.before.before.before.token.ensures) c.before.before.before.before.before.before.before.new_line.ensures) c.before.before.before.one.ensures) c.before.before.before.before.before.before.before.before.before.deeper.ensures)
 
 commas-trailing-comma-requires :
     (t : ℕ) → commas-lts.Need-trailing-comma-requires (
@@ -602,19 +602,19 @@ commas-token-requires-2 : (t : ℕ) → commas-lts.Need-token-requires-2 (claims
 commas-token-requires-2 t c κs = tt
 
 commas-returns : (t : ℕ) → commas-lts.Need-returns (claims-commas t) (commas-at t) commas.Post
-commas-returns t c = commas-some _ _ _ (c.before.before.before.before.before.before.before.before.before.before.before.before.before.before.before.before.before.before.before.before.before.before.before.before.deeper.ensures _) c.before.before.before.before.before.before.before.before.before.before.before.before.before.before.before.before.before.before.before.before.before.before.before.before.before.before.before.before.before.before.before.before.before.before.before.before.before.requires.1.rest (sym c.before.before.before.before.before.before.before.before.before.before.before.before.before.before.before.before.before.before.before.before.before.before.before.before.before.before.is-next.ensures ∙ c.before.before.before.before.before.before.before.before.before.before.before.before.before.before.before.before.before.before.before.before.before.before.before.before.before.if1.true) c.before.before.before.before.before.before.before.before.before.before.before.before.before.before.before.before.before.before.before.before.before.before.before.before.before.before.before.before.before.token.ensures c.before.before.before.before.before.before.before.before.before.before.before.before.before.before.before.before.before.before.before.before.before.before.new_line.ensures c.before.before.before.before.before.before.before.before.before.before.before.before.before.before.before.before.before.before.one.ensures c.before.before.before.before.before.before.before.before.before.before.before.before.before.before.each.ensures c.before.before.before.before.before.before.before.before.before.before.trailing-comma.ensures c.before.before.before.before.before.before.new-line2.ensures c.before.before.token2.ensures
+commas-returns t c = commas_some _ _ _ (c.before.before.before.before.before.before.before.before.before.before.before.before.before.before.before.before.before.before.before.before.before.before.before.before.deeper.ensures _) c.before.before.before.before.before.before.before.before.before.before.before.before.before.before.before.before.before.before.before.before.before.before.before.before.before.before.before.before.before.before.before.before.before.before.before.before.before.requires.1.rest (sym c.before.before.before.before.before.before.before.before.before.before.before.before.before.before.before.before.before.before.before.before.before.before.before.before.before.before.is-next.ensures ∙ c.before.before.before.before.before.before.before.before.before.before.before.before.before.before.before.before.before.before.before.before.before.before.before.before.before.if1.true) c.before.before.before.before.before.before.before.before.before.before.before.before.before.before.before.before.before.before.before.before.before.before.before.before.before.before.before.before.before.token.ensures c.before.before.before.before.before.before.before.before.before.before.before.before.before.before.before.before.before.before.before.before.before.before.new_line.ensures c.before.before.before.before.before.before.before.before.before.before.before.before.before.before.before.before.before.before.one.ensures c.before.before.before.before.before.before.before.before.before.before.before.before.before.before.each.ensures c.before.before.before.before.before.before.before.before.before.before.trailing-comma.ensures c.before.before.before.before.before.before.new-line2.ensures c.before.before.token2.ensures
 
 commas-same-length : (t : ℕ) → commas-lts.Need-same-length (claims-commas t) (commas-at t) commas.Post
-commas-same-length t c = wrote-length (commas-returns t c).wrote
+commas-same-length t c = wrote_length (commas-returns t c).wrote
 
 commas-token-requires-3 : (t : ℕ) → commas-lts.Need-token-requires-3 (claims-commas t) (commas-at t) commas.Post
 commas-token-requires-3 t c κs = tt
 
 commas-returns-2 : (t : ℕ) → commas-lts.Need-returns-2 (claims-commas t) (commas-at t) commas.Post
-commas-returns-2 t c = commas-none _ _ c.before.before.before.before.before.before.before.before.before.before.before.before.before.before.before.before.requires.1.rest (sym c.before.before.before.before.before.is-next.ensures ∙ c.before.before.before.before.if1.false) c.before.before.before.before.before.before.before.before.token.ensures c.before.before.token3.ensures
+commas-returns-2 t c = commas_none _ _ c.before.before.before.before.before.before.before.before.before.before.before.before.before.before.before.before.requires.1.rest (sym c.before.before.before.before.before.is-next.ensures ∙ c.before.before.before.before.if1.false) c.before.before.before.before.before.before.before.before.token.ensures c.before.before.token3.ensures
 
 commas-same-length-2 : (t : ℕ) → commas-lts.Need-same-length-2 (claims-commas t) (commas-at t) commas.Post
-commas-same-length-2 t c = wrote-length (commas-returns-2 t c).wrote
+commas-same-length-2 t c = wrote_length (commas-returns-2 t c).wrote
 
 curly-slice-aggregate-token : (t : ℕ) → curly-lts.Need-slice-aggregate-token (claims-curly t) (curly-at t) curly.Post
 curly-slice-aggregate-token t c = refl
@@ -623,13 +623,13 @@ curly-token-requires : (t : ℕ) → curly-lts.Need-token-requires (claims-curly
 curly-token-requires t c κs = tt
 
 curly-is-next-requires : (t : ℕ) → curly-lts.Need-is-next-requires (claims-curly t) (curly-at t) curly.Post
-curly-is-next-requires t c κs = rest-within c.before.before.before.before.before.before.before.before.before.requires.1.rest
+curly-is-next-requires t c κs = rest_within c.before.before.before.before.before.before.before.before.before.requires.1.rest
 
 curly-deeper-requires : (t : ℕ) → curly-lts.Need-deeper-requires (claims-curly t) (curly-at t) curly.Post
 curly-deeper-requires t c κs = omega (arith, c.before.before.before.before.before.before.before.before.before.before.before.requires.1.level)
 
 curly-each-requires : (t : ℕ) → curly-lts.Need-each-requires (claims-curly t) (curly-at t) curly.Post
-curly-each-requires t c κs = (omega (arith, c.before.before.before.before.before.before.before.before.before.before.before.before.before.requires.0), jobs-deeper _ (jobs-kept c.before.before.before.before.before.before.before.before.before.before.before.before.before.requires.1 c.before.before.before.before.before.before.token.ensures) c.before.deeper.ensures)
+curly-each-requires t c κs = (omega (arith, c.before.before.before.before.before.before.before.before.before.before.before.before.before.requires.0), jobs_deeper _ (jobs_kept c.before.before.before.before.before.before.before.before.before.before.before.before.before.requires.1 c.before.before.before.before.before.before.token.ensures) c.before.deeper.ensures)
 
 curly-new-line-or-space-requires :
     (t : ℕ) → curly-lts.Need-new-line-or-space-requires (
@@ -653,10 +653,10 @@ curly-token-requires-2 : (t : ℕ) → curly-lts.Need-token-requires-2 (claims-c
 curly-token-requires-2 t c κs = tt
 
 curly-returns : (t : ℕ) → curly-lts.Need-returns (claims-curly t) (curly-at t) curly.Post
-curly-returns t c = braces-some _ _ _ (c.before.before.before.before.before.before.before.before.before.before.before.before.before.deeper.ensures _) c.before.before.before.before.before.before.before.before.before.before.before.before.before.before.before.before.before.before.before.before.before.before.before.before.before.requires.1.rest (sym c.before.before.before.before.before.before.before.before.before.before.before.before.before.before.before.is-next.ensures ∙ c.before.before.before.before.before.before.before.before.before.before.before.before.before.before.if1.true) c.before.before.before.before.before.before.before.before.before.before.before.before.before.before.before.before.before.before.token.ensures c.before.before.before.before.before.before.before.before.before.before.before.each.ensures c.before.before.before.before.before.before.before.new-line-or-space.ensures c.before.before.token2.ensures
+curly-returns t c = braces_some _ _ _ (c.before.before.before.before.before.before.before.before.before.before.before.before.before.deeper.ensures _) c.before.before.before.before.before.before.before.before.before.before.before.before.before.before.before.before.before.before.before.before.before.before.before.before.before.requires.1.rest (sym c.before.before.before.before.before.before.before.before.before.before.before.before.before.before.before.is-next.ensures ∙ c.before.before.before.before.before.before.before.before.before.before.before.before.before.before.if1.true) c.before.before.before.before.before.before.before.before.before.before.before.before.before.before.before.before.before.before.token.ensures c.before.before.before.before.before.before.before.before.before.before.before.each.ensures c.before.before.before.before.before.before.before.new-line-or-space.ensures c.before.before.token2.ensures
 
 curly-same-length : (t : ℕ) → curly-lts.Need-same-length (claims-curly t) (curly-at t) curly.Post
-curly-same-length t c = wrote-length (curly-returns t c).wrote
+curly-same-length t c = wrote_length (curly-returns t c).wrote
 
 curly-slice-aggregate-token-3 : (t : ℕ) → curly-lts.Need-slice-aggregate-token-3 (claims-curly t) (curly-at t) curly.Post
 curly-slice-aggregate-token-3 t c = refl
@@ -665,13 +665,13 @@ curly-token-requires-3 : (t : ℕ) → curly-lts.Need-token-requires-3 (claims-c
 curly-token-requires-3 t c κs = tt
 
 curly-returns-2 : (t : ℕ) → curly-lts.Need-returns-2 (claims-curly t) (curly-at t) curly.Post
-curly-returns-2 t c = braces-none _ _ c.before.before.before.before.before.before.before.before.before.before.before.before.before.before.before.before.requires.1.rest (sym c.before.before.before.before.before.before.is-next.ensures ∙ c.before.before.before.before.before.if1.false) c.before.before.before.before.before.before.before.before.before.token.ensures c.before.before.token3.ensures
+curly-returns-2 t c = braces_none _ _ c.before.before.before.before.before.before.before.before.before.before.before.before.before.before.before.before.requires.1.rest (sym c.before.before.before.before.before.before.is-next.ensures ∙ c.before.before.before.before.before.if1.false) c.before.before.before.before.before.before.before.before.before.token.ensures c.before.before.token3.ensures
 
 curly-same-length-2 : (t : ℕ) → curly-lts.Need-same-length-2 (claims-curly t) (curly-at t) curly.Post
-curly-same-length-2 t c = wrote-length (curly-returns-2 t c).wrote
+curly-same-length-2 t c = wrote_length (curly-returns-2 t c).wrote
 
 default-is-next-requires : (t : ℕ) → default-lts.Need-is-next-requires (claims-default t) (default-at t) default.Post
-default-is-next-requires t c κs = rest-within c.before.before.before.before.requires.1.rest
+default-is-next-requires t c κs = rest_within c.before.before.before.before.requires.1.rest
 
 default-slice-aggregate-token : (t : ℕ) → default-lts.Need-slice-aggregate-token (claims-default t) (default-at t) default.Post
 default-slice-aggregate-token t c = refl
@@ -680,16 +680,16 @@ default-token-requires : (t : ℕ) → default-lts.Need-token-requires (claims-d
 default-token-requires t c κs = tt
 
 default-one-requires : (t : ℕ) → default-lts.Need-one-requires (claims-default t) (default-at t) default.Post
-default-one-requires t c κs = (omega (arith, c.before.before.before.before.before.before.before.before.before.before.before.before.requires.0), jobs-kept c.before.before.before.before.before.before.before.before.before.before.before.before.requires.1 c.before.before.before.token.ensures)
+default-one-requires t c κs = (omega (arith, c.before.before.before.before.before.before.before.before.before.before.before.before.requires.0), jobs_kept c.before.before.before.before.before.before.before.before.before.before.before.before.requires.1 c.before.before.before.token.ensures)
 
 default-returns : (t : ℕ) → default-lts.Need-returns (claims-default t) (default-at t) default.Post
-default-returns t c = λ n. a-child _ (rest-ranged c.before.before.before.before.before.before.before.before.before.before.before.before.before.before.before.requires.1.rest) value (sym c.before.before.before.before.before.before.before.before.before.before.is-next.ensures ∙ c.before.before.before.before.before.before.before.before.before.if1.true) (did-tokens (sp ++ token "=" ++ sp) refl c.before.before.before.before.before.before.token.ensures ⨾ did-one value c.before.before.one.ensures)
+default-returns t c = λ n. a_child _ (rest_ranged c.before.before.before.before.before.before.before.before.before.before.before.before.before.before.before.requires.1.rest) value (sym c.before.before.before.before.before.before.before.before.before.before.is-next.ensures ∙ c.before.before.before.before.before.before.before.before.before.if1.true) (did_tokens (sp ++ token "=" ++ sp) refl c.before.before.before.before.before.before.token.ensures ⨾ did_one value c.before.before.one.ensures)
 
 default-same-length : (t : ℕ) → default-lts.Need-same-length (claims-default t) (default-at t) default.Post
-default-same-length t c = wrote-length (default-returns t c 0).walked.wrote
+default-same-length t c = wrote_length (default-returns t c 0).walked.wrote
 
 default-returns-2 : (t : ℕ) → default-lts.Need-returns-2 (claims-default t) (default-at t) default.Post
-default-returns-2 t c = λ n. no-child (sp ++ token "=" ++ sp ++ child value) (rest-ranged c.before.before.before.before.before.before.requires.1.rest) value refl (sym c.before.is-next.ensures ∙ c.if1.false) (kept-none (record { place = omega arith; size = omega arith }))
+default-returns-2 t c = λ n. no_child (sp ++ token "=" ++ sp ++ child value) (rest_ranged c.before.before.before.before.before.before.requires.1.rest) value refl (sym c.before.is-next.ensures ∙ c.if1.false) (kept_none (record { place = omega arith; size = omega arith }))
 
 directive-slice-aggregate-token : (t : ℕ) → directive-lts.Need-slice-aggregate-token (claims-directive t) (directive-at t) directive.Post
 directive-slice-aggregate-token t c = refl
@@ -701,17 +701,17 @@ directive-name-requires : (t : ℕ) → directive-lts.Need-name-requires (claims
 directive-name-requires t c κs = c.before.before.before.before.before.before.before.before.before.before.requires.1.text
 
 directive-arguments-requires : (t : ℕ) → directive-lts.Need-arguments-requires (claims-directive t) (directive-at t) directive.Post
-directive-arguments-requires t c κs = (omega (arith, c.before.before.before.before.before.before.before.before.before.before.before.before.before.before.requires.0), jobs-kept (jobs-kept c.before.before.before.before.before.before.before.before.before.before.before.before.before.before.requires.1.jobs c.before.before.before.before.before.before.before.token.ensures) c.before.before.before.name.ensures)
+directive-arguments-requires t c κs = (omega (arith, c.before.before.before.before.before.before.before.before.before.before.before.before.before.before.requires.0), jobs_kept (jobs_kept c.before.before.before.before.before.before.before.before.before.before.before.before.before.before.requires.1.jobs c.before.before.before.before.before.before.before.token.ensures) c.before.before.before.name.ensures)
 
 directive-returns : (t : ℕ) → directive-lts.Need-returns (claims-directive t) (directive-at t) directive.Post
-unfolding ruleOf
-directive-returns t c = did-tokens (token "@") refl c.before.before.before.before.before.before.before.before.before.before.token.ensures ⨾ did-name c.before.before.before.before.before.before.name.ensures ⨾ c.before.before.arguments.ensures _
+unfolding rule_of
+directive-returns t c = did_tokens (token "@") refl c.before.before.before.before.before.before.before.before.before.before.token.ensures ⨾ did_name c.before.before.before.before.before.before.name.ensures ⨾ c.before.before.arguments.ensures _
 
 directive-same-length : (t : ℕ) → directive-lts.Need-same-length (claims-directive t) (directive-at t) directive.Post
-directive-same-length t c = wrote-length (directive-returns t c).walked.wrote
+directive-same-length t c = wrote_length (directive-returns t c).walked.wrote
 
 directives-is-next-requires : (t : ℕ) → directives-lts.Need-is-next-requires (claims-directives t) (directives-at t) directives.Post
-directives-is-next-requires t c κs = rest-within c.before.before.before.before.requires.1.rest
+directives-is-next-requires t c κs = rest_within c.before.before.before.before.requires.1.rest
 
 directives-each-requires : (t : ℕ) → directives-lts.Need-each-requires (claims-directives t) (directives-at t) directives.Post
 directives-each-requires t c κs = (omega (arith, c.before.before.before.before.before.before.before.requires.0), c.before.before.before.before.before.before.before.requires.1)
@@ -720,40 +720,40 @@ directives-returns : (t : ℕ) → directives-lts.Need-returns (claims-directive
 directives-returns t c = c.before.before.each.ensures
 
 directives-same-length : (t : ℕ) → directives-lts.Need-same-length (claims-directives t) (directives-at t) directives.Post
-directives-same-length t c = wrote-length (directives-returns t c).wrote
+directives-same-length t c = wrote_length (directives-returns t c).wrote
 
 directives-returns-2 : (t : ℕ) → directives-lts.Need-returns-2 (claims-directives t) (directives-at t) directives.Post
-directives-returns-2 t c = nothing_said _ _ _ c.before.before.before.before.before.before.requires.1.rest (sym c.before.is-next.ensures ∙ c.if1.false) (kept-none (record { place = omega arith; size = omega arith }))
+directives-returns-2 t c = nothing_said _ _ _ c.before.before.before.before.before.before.requires.1.rest (sym c.before.is-next.ensures ∙ c.if1.false) (kept_none (record { place = omega arith; size = omega arith }))
 
 abbrev each-Inv-loop : each-lts.invariant-loop
-each-Inv-loop words pool table class gap to depth prefix state out₀ w₀ out w = Run table words pool (under state prefix) (gapText gap (under state prefix)) (meant class) to.0 depth state.level out₀ w₀ out w
+each-Inv-loop words pool table class gap to depth prefix state out₀ w₀ out w = Run table words pool (under state prefix) (gap_text gap (under state prefix)) (meant class) to.0 depth state.level out₀ w₀ out w
 
 abbrev each-μ-loop : each-lts.decreases-loop
 each-μ-loop words pool table class gap to depth prefix state out₀ w₀ out w = length (kids words pool w.node.0 to.0)
 
 each-loop-holds : (t : ℕ) → each-lts.Need-loop-init (claims-each t) (each_at t) each.Post each-Inv-loop each-μ-loop
-each-loop-holds t c = run-all c.before.before.before.before.requires.1 (record { place = omega arith; size = omega arith })
+each-loop-holds t c = run_all c.before.before.before.before.requires.1 (record { place = omega arith; size = omega arith })
 
 each-is-next-requires : (t : ℕ) → each-lts.Need-is-next-requires (claims-each t) (each_at t) each.Post each-Inv-loop each-μ-loop
-each-is-next-requires t c κs = rest-within c.loop.invariant.jobs.rest
+each-is-next-requires t c κs = rest_within c.loop.invariant.jobs.rest
 
 each-write-gap-requires : (t : ℕ) → each-lts.Need-write-gap-requires (claims-each t) (each_at t) each.Post each-Inv-loop each-μ-loop
 each-write-gap-requires t c κs = tt
 
 each-one-requires : (t : ℕ) → each-lts.Need-one-requires (claims-each t) (each_at t) each.Post each-Inv-loop each-μ-loop
-each-one-requires t c κs = (omega (arith, c.before.before.before.before.before.before.before.before.before.before.before.before.requires.0), jobs-kept c.before.before.before.before.before.before.before.loop.invariant.jobs c.before.before.before.write-gap.ensures)
+each-one-requires t c κs = (omega (arith, c.before.before.before.before.before.before.before.before.before.before.before.before.requires.0), jobs_kept c.before.before.before.before.before.before.before.loop.invariant.jobs c.before.before.before.write-gap.ensures)
 
 each-loop-less : (t : ℕ) → each-lts.Need-loop-smaller (claims-each t) (each_at t) each.Post each-Inv-loop each-μ-loop
-each-loop-less t c = fewer-left _ c.before.before.before.before.before.before.before.before.before.before.loop.invariant.jobs.rest (sym c.before.before.before.before.before.before.before.before.before.is-next.ensures ∙ c.before.before.before.before.before.before.before.before.if1.true) c.before.before.before.before.before.before.write-gap.ensures c.before.before.one.ensures
+each-loop-less t c = fewer_left _ c.before.before.before.before.before.before.before.before.before.before.loop.invariant.jobs.rest (sym c.before.before.before.before.before.before.before.before.before.is-next.ensures ∙ c.before.before.before.before.before.before.before.before.if1.true) c.before.before.before.before.before.before.write-gap.ensures c.before.before.one.ensures
 
 each-loop-again : (t : ℕ) → each-lts.Need-loop-preserved (claims-each t) (each_at t) each.Post each-Inv-loop each-μ-loop
-each-loop-again t c = run-turn c.before.before.before.before.before.before.before.before.before.before.loop.invariant (sym c.before.before.before.before.before.before.before.before.before.is-next.ensures ∙ c.before.before.before.before.before.before.before.before.if1.true) c.before.before.before.before.before.before.write-gap.ensures c.before.before.one.ensures
+each-loop-again t c = run_turn c.before.before.before.before.before.before.before.before.before.before.loop.invariant (sym c.before.before.before.before.before.before.before.before.before.is-next.ensures ∙ c.before.before.before.before.before.before.before.before.if1.true) c.before.before.before.before.before.before.write-gap.ensures c.before.before.one.ensures
 
 each-same-length : (t : ℕ) → each-lts.Need-same-length (claims-each t) (each_at t) each.Post each-Inv-loop each-μ-loop
-each-same-length t c = left-length c.before.before.loop.invariant.todo
+each-same-length t c = left_length c.before.before.loop.invariant.todo
 
 each-returns : (t : ℕ) → each-lts.Need-returns (claims-each t) (each_at t) each.Post each-Inv-loop each-μ-loop
-each-returns t c = run-over c.before.before.loop.invariant (sym c.before.is-next.ensures ∙ c.if1.false)
+each-returns t c = run_over c.before.before.loop.invariant (sym c.before.is-next.ensures ∙ c.if1.false)
 
 enum-value-serialize-description-requires :
     (t : ℕ) → enum-value-lts.Need-serialize-description-requires (
@@ -764,42 +764,42 @@ enum-value-serialize-description-requires :
       directives-below t,
       directives.Post,
     ) (enum-value-at t) enum-value.Post
-enum-value-serialize-description-requires t c κs = (rest-ranged c.before.before.before.before.before.requires.1.jobs.rest, c.before.before.before.before.before.requires.1.jobs.table)
+enum-value-serialize-description-requires t c κs = (rest_ranged c.before.before.before.before.before.requires.1.jobs.rest, c.before.before.before.before.before.requires.1.jobs.table)
 
 enum-value-name-requires : (t : ℕ) → enum-value-lts.Need-name-requires (claims-enum-value t) (enum-value-at t) enum-value.Post
 enum-value-name-requires t c κs = c.before.before.before.before.before.before.before.before.before.requires.1.text
 
 enum-value-directives-requires : (t : ℕ) → enum-value-lts.Need-directives-requires (claims-enum-value t) (enum-value-at t) enum-value.Post
-enum-value-directives-requires t c κs = (omega (arith, c.before.before.before.before.before.before.before.before.before.before.before.before.before.requires.0), here (jobs-kept (jobs-walked c.before.before.before.before.before.before.before.before.before.before.before.before.before.requires.1.jobs (c.before.before.before.before.before.before.before.serialize-description.ensures 0).walked) c.before.before.before.name.ensures))
+enum-value-directives-requires t c κs = (omega (arith, c.before.before.before.before.before.before.before.before.before.before.before.before.before.requires.0), here (jobs_kept (jobs_walked c.before.before.before.before.before.before.before.before.before.before.before.before.before.requires.1.jobs (c.before.before.before.before.before.before.before.serialize-description.ensures 0).walked) c.before.before.before.name.ensures))
 
 enum-value-returns : (t : ℕ) → enum-value-lts.Need-returns (claims-enum-value t) (enum-value-at t) enum-value.Post
-unfolding ruleOf
-enum-value-returns t c = c.before.before.before.before.before.before.before.before.before.before.serialize-description.ensures _ ⨾ did-name c.before.before.before.before.before.before.name.ensures ⨾ did-spaced _ c.before.before.directives.ensures
+unfolding rule_of
+enum-value-returns t c = c.before.before.before.before.before.before.before.before.before.before.serialize-description.ensures _ ⨾ did_name c.before.before.before.before.before.before.name.ensures ⨾ did_spaced _ c.before.before.directives.ensures
 
 enum-value-same-length : (t : ℕ) → enum-value-lts.Need-same-length (claims-enum-value t) (enum-value-at t) enum-value.Post
-enum-value-same-length t c = wrote-length (enum-value-returns t c).walked.wrote
+enum-value-same-length t c = wrote_length (enum-value-returns t c).walked.wrote
 
 field-alias-requires : (t : ℕ) → field-lts.Need-alias-requires (claims-field t) (field_at t) field.Post
-field-alias-requires t c κs = rest-ranged c.before.before.before.before.before.requires.1.jobs.rest
+field-alias-requires t c κs = rest_ranged c.before.before.before.before.before.requires.1.jobs.rest
 
 field-name-requires : (t : ℕ) → field-lts.Need-name-requires (claims-field t) (field_at t) field.Post
 field-name-requires t c κs = c.before.before.before.before.before.before.before.before.before.requires.1.text
 
 field-arguments-requires : (t : ℕ) → field-lts.Need-arguments-requires (claims-field t) (field_at t) field.Post
-field-arguments-requires t c κs = (omega (arith, c.before.before.before.before.before.before.before.before.before.before.before.before.before.requires.0), jobs-kept (jobs-walked c.before.before.before.before.before.before.before.before.before.before.before.before.before.requires.1.jobs (c.before.before.before.before.before.before.before.alias.ensures defaultSettings 0).walked) c.before.before.before.name.ensures)
+field-arguments-requires t c κs = (omega (arith, c.before.before.before.before.before.before.before.before.before.before.before.before.before.requires.0), jobs_kept (jobs_walked c.before.before.before.before.before.before.before.before.before.before.before.before.before.requires.1.jobs (c.before.before.before.before.before.before.before.alias.ensures default_settings 0).walked) c.before.before.before.name.ensures)
 
 field-directives-requires : (t : ℕ) → field-lts.Need-directives-requires (claims-field t) (field_at t) field.Post
-field-directives-requires t c κs = (omega (arith, c.before.before.before.before.before.before.before.before.before.before.before.before.before.before.before.before.before.requires.0), here (jobs-walked (jobs-kept (jobs-walked c.before.before.before.before.before.before.before.before.before.before.before.before.before.before.before.before.before.requires.1.jobs (c.before.before.before.before.before.before.before.before.before.before.before.alias.ensures defaultSettings 0).walked) c.before.before.before.before.before.before.before.name.ensures) (c.before.before.before.arguments.ensures 0).walked))
+field-directives-requires t c κs = (omega (arith, c.before.before.before.before.before.before.before.before.before.before.before.before.before.before.before.before.before.requires.0), here (jobs_walked (jobs_kept (jobs_walked c.before.before.before.before.before.before.before.before.before.before.before.before.before.before.before.before.before.requires.1.jobs (c.before.before.before.before.before.before.before.before.before.before.before.alias.ensures default_settings 0).walked) c.before.before.before.before.before.before.before.name.ensures) (c.before.before.before.arguments.ensures 0).walked))
 
 field-opt-braces-requires : (t : ℕ) → field-lts.Need-opt-braces-requires (claims-field t) (field_at t) field.Post
-field-opt-braces-requires t c κs = (omega (arith, c.before.before.before.before.before.before.before.before.before.before.before.before.before.before.before.before.before.before.before.before.before.requires.0), jobs-walked (jobs-walked (jobs-kept (jobs-walked c.before.before.before.before.before.before.before.before.before.before.before.before.before.before.before.before.before.before.before.before.before.requires.1.jobs (c.before.before.before.before.before.before.before.before.before.before.before.before.before.before.before.alias.ensures defaultSettings 0).walked) c.before.before.before.before.before.before.before.before.before.before.before.name.ensures) (c.before.before.before.before.before.before.before.arguments.ensures 0).walked) c.before.before.before.directives.ensures)
+field-opt-braces-requires t c κs = (omega (arith, c.before.before.before.before.before.before.before.before.before.before.before.before.before.before.before.before.before.before.before.before.before.requires.0), jobs_walked (jobs_walked (jobs_kept (jobs_walked c.before.before.before.before.before.before.before.before.before.before.before.before.before.before.before.before.before.before.before.before.before.requires.1.jobs (c.before.before.before.before.before.before.before.before.before.before.before.before.before.before.before.alias.ensures default_settings 0).walked) c.before.before.before.before.before.before.before.before.before.before.before.name.ensures) (c.before.before.before.before.before.before.before.arguments.ensures 0).walked) c.before.before.before.directives.ensures)
 
 field-returns : (t : ℕ) → field-lts.Need-returns (claims-field t) (field_at t) field.Post
-unfolding ruleOf
-field-returns t c = c.before.before.before.before.before.before.before.before.before.before.before.before.before.before.before.before.before.before.alias.ensures _ _ ⨾ did-name c.before.before.before.before.before.before.before.before.before.before.before.before.before.before.name.ensures ⨾ c.before.before.before.before.before.before.before.before.before.before.arguments.ensures _ ⨾ did-spaced _ c.before.before.before.before.before.before.directives.ensures ⨾ c.before.before.opt-braces.ensures _
+unfolding rule_of
+field-returns t c = c.before.before.before.before.before.before.before.before.before.before.before.before.before.before.before.before.before.before.alias.ensures _ _ ⨾ did_name c.before.before.before.before.before.before.before.before.before.before.before.before.before.before.name.ensures ⨾ c.before.before.before.before.before.before.before.before.before.before.arguments.ensures _ ⨾ did_spaced _ c.before.before.before.before.before.before.directives.ensures ⨾ c.before.before.opt-braces.ensures _
 
 field-same-length : (t : ℕ) → field-lts.Need-same-length (claims-field t) (field_at t) field.Post
-field-same-length t c = wrote-length (field-returns t c).walked.wrote
+field-same-length t c = wrote_length (field-returns t c).walked.wrote
 
 field-def-serialize-description-requires :
     (t : ℕ) → field-def-lts.Need-serialize-description-requires (
@@ -816,7 +816,7 @@ field-def-serialize-description-requires :
       directives-below t,
       directives.Post,
     ) (field-def-at t) field-def.Post
-field-def-serialize-description-requires t c κs = (rest-ranged c.before.before.before.before.before.requires.1.jobs.rest, c.before.before.before.before.before.requires.1.jobs.table)
+field-def-serialize-description-requires t c κs = (rest_ranged c.before.before.before.before.before.requires.1.jobs.rest, c.before.before.before.before.before.requires.1.jobs.table)
 
 field-def-name-requires : (t : ℕ) → field-def-lts.Need-name-requires (claims-field-def t) (field-def-at t) field-def.Post
 field-def-name-requires t c κs = c.before.before.before.before.before.before.before.before.before.requires.1.text
@@ -836,7 +836,7 @@ field-def-arguments-def-requires :
       directives-below t,
       directives.Post,
     ) (field-def-at t) field-def.Post
-field-def-arguments-def-requires t c κs = (omega (arith, c.before.before.before.before.before.before.before.before.before.before.before.before.before.requires.0), jobs-kept (jobs-walked c.before.before.before.before.before.before.before.before.before.before.before.before.before.requires.1.jobs (c.before.before.before.before.before.before.before.serialize-description.ensures 0).walked) c.before.before.before.name.ensures)
+field-def-arguments-def-requires t c κs = (omega (arith, c.before.before.before.before.before.before.before.before.before.before.before.before.before.requires.0), jobs_kept (jobs_walked c.before.before.before.before.before.before.before.before.before.before.before.before.before.requires.1.jobs (c.before.before.before.before.before.before.before.serialize-description.ensures 0).walked) c.before.before.before.name.ensures)
 
 field-def-slice-aggregate-token : (t : ℕ) → field-def-lts.Need-slice-aggregate-token (claims-field-def t) (field-def-at t) field-def.Post
 field-def-slice-aggregate-token t c = refl
@@ -845,17 +845,17 @@ field-def-token-requires : (t : ℕ) → field-def-lts.Need-token-requires (clai
 field-def-token-requires t c κs = tt
 
 field-def-one-requires : (t : ℕ) → field-def-lts.Need-one-requires (claims-field-def t) (field-def-at t) field-def.Post
-field-def-one-requires t c κs = (omega (arith, c.before.before.before.before.before.before.before.before.before.before.before.before.before.before.before.before.before.before.before.before.before.before.requires.0), here (jobs-kept (jobs-walked (jobs-kept (jobs-walked c.before.before.before.before.before.before.before.before.before.before.before.before.before.before.before.before.before.before.before.before.before.before.requires.1.jobs (c.before.before.before.before.before.before.before.before.before.before.before.before.before.before.before.before.serialize-description.ensures 0).walked) c.before.before.before.before.before.before.before.before.before.before.before.before.name.ensures) (c.before.before.before.before.before.before.before.before.arguments-def.ensures 0).walked) c.before.before.before.token.ensures))
+field-def-one-requires t c κs = (omega (arith, c.before.before.before.before.before.before.before.before.before.before.before.before.before.before.before.before.before.before.before.before.before.before.requires.0), here (jobs_kept (jobs_walked (jobs_kept (jobs_walked c.before.before.before.before.before.before.before.before.before.before.before.before.before.before.before.before.before.before.before.before.before.before.requires.1.jobs (c.before.before.before.before.before.before.before.before.before.before.before.before.before.before.before.before.serialize-description.ensures 0).walked) c.before.before.before.before.before.before.before.before.before.before.before.before.name.ensures) (c.before.before.before.before.before.before.before.before.arguments-def.ensures 0).walked) c.before.before.before.token.ensures))
 
 field-def-directives-requires : (t : ℕ) → field-def-lts.Need-directives-requires (claims-field-def t) (field-def-at t) field-def.Post
-field-def-directives-requires t c κs = (omega (arith, c.before.before.before.before.before.before.before.before.before.before.before.before.before.before.before.before.before.before.before.before.before.before.before.before.before.before.requires.0), here (jobs-walked (jobs-kept (jobs-walked (jobs-kept (jobs-walked c.before.before.before.before.before.before.before.before.before.before.before.before.before.before.before.before.before.before.before.before.before.before.before.before.before.before.requires.1.jobs (c.before.before.before.before.before.before.before.before.before.before.before.before.before.before.before.before.before.before.before.before.serialize-description.ensures 0).walked) c.before.before.before.before.before.before.before.before.before.before.before.before.before.before.before.before.name.ensures) (c.before.before.before.before.before.before.before.before.before.before.before.before.arguments-def.ensures 0).walked) c.before.before.before.before.before.before.before.token.ensures) c.before.before.before.one.ensures))
+field-def-directives-requires t c κs = (omega (arith, c.before.before.before.before.before.before.before.before.before.before.before.before.before.before.before.before.before.before.before.before.before.before.before.before.before.before.requires.0), here (jobs_walked (jobs_kept (jobs_walked (jobs_kept (jobs_walked c.before.before.before.before.before.before.before.before.before.before.before.before.before.before.before.before.before.before.before.before.before.before.before.before.before.before.requires.1.jobs (c.before.before.before.before.before.before.before.before.before.before.before.before.before.before.before.before.before.before.before.before.serialize-description.ensures 0).walked) c.before.before.before.before.before.before.before.before.before.before.before.before.before.before.before.before.name.ensures) (c.before.before.before.before.before.before.before.before.before.before.before.before.arguments-def.ensures 0).walked) c.before.before.before.before.before.before.before.token.ensures) c.before.before.before.one.ensures))
 
 field-def-returns : (t : ℕ) → field-def-lts.Need-returns (claims-field-def t) (field-def-at t) field-def.Post
-unfolding ruleOf
-field-def-returns t c = c.before.before.before.before.before.before.before.before.before.before.before.before.before.before.before.before.before.before.before.before.before.before.before.serialize-description.ensures _ ⨾ did-name c.before.before.before.before.before.before.before.before.before.before.before.before.before.before.before.before.before.before.before.name.ensures ⨾ c.before.before.before.before.before.before.before.before.before.before.before.before.before.before.before.arguments-def.ensures _ ⨾ did-tokens (token ":" ++ sp) refl c.before.before.before.before.before.before.before.before.before.before.token.ensures ⨾ did-one type c.before.before.before.before.before.before.one.ensures ⨾ did-spaced _ c.before.before.directives.ensures
+unfolding rule_of
+field-def-returns t c = c.before.before.before.before.before.before.before.before.before.before.before.before.before.before.before.before.before.before.before.before.before.before.before.serialize-description.ensures _ ⨾ did_name c.before.before.before.before.before.before.before.before.before.before.before.before.before.before.before.before.before.before.before.name.ensures ⨾ c.before.before.before.before.before.before.before.before.before.before.before.before.before.before.before.arguments-def.ensures _ ⨾ did_tokens (token ":" ++ sp) refl c.before.before.before.before.before.before.before.before.before.before.token.ensures ⨾ did_one type c.before.before.before.before.before.before.one.ensures ⨾ did_spaced _ c.before.before.directives.ensures
 
 field-def-same-length : (t : ℕ) → field-def-lts.Need-same-length (claims-field-def t) (field-def-at t) field-def.Post
-field-def-same-length t c = wrote-length (field-def-returns t c).walked.wrote
+field-def-same-length t c = wrote_length (field-def-returns t c).walked.wrote
 
 inline-slice-aggregate-token : (t : ℕ) → inline-lts.Need-slice-aggregate-token (claims-inline t) (inline-at t) inline.Post
 inline-slice-aggregate-token t c = refl
@@ -870,7 +870,7 @@ inline-if-named-requires : (t : ℕ) → inline-lts.Need-if-named-requires (clai
 inline-if-named-requires t c κs = c.before.before.before.before.before.before.before.before.before.before.before.requires.1.text
 
 inline-directives-requires : (t : ℕ) → inline-lts.Need-directives-requires (claims-inline t) (inline-at t) inline.Post
-inline-directives-requires t c κs = (omega (arith, c.before.before.before.before.before.before.before.before.before.before.before.before.before.before.before.requires.0), here (jobs-walked (jobs-kept c.before.before.before.before.before.before.before.before.before.before.before.before.before.before.before.requires.1.jobs c.before.before.before.before.before.before.before.before.token.ensures) (c.before.before.before.if-named.ensures defaultSettings _ (sp ++ token "on" ++ sp) refl refl).walked))
+inline-directives-requires t c κs = (omega (arith, c.before.before.before.before.before.before.before.before.before.before.before.before.before.before.before.requires.0), here (jobs_walked (jobs_kept c.before.before.before.before.before.before.before.before.before.before.before.before.before.before.before.requires.1.jobs c.before.before.before.before.before.before.before.before.token.ensures) (c.before.before.before.if-named.ensures default_settings _ (sp ++ token "on" ++ sp) refl refl).walked))
 
 inline-slice-aggregate-token-2 : (t : ℕ) → inline-lts.Need-slice-aggregate-token-2 (claims-inline t) (inline-at t) inline.Post
 inline-slice-aggregate-token-2 t c = refl
@@ -879,14 +879,14 @@ inline-token-requires-2 : (t : ℕ) → inline-lts.Need-token-requires-2 (claims
 inline-token-requires-2 t c κs = tt
 
 inline-curly-requires : (t : ℕ) → inline-lts.Need-curly-requires (claims-inline t) (inline-at t) inline.Post
-inline-curly-requires t c κs = (omega (arith, c.before.before.before.before.before.before.before.before.before.before.before.before.before.before.before.before.before.before.before.before.before.before.before.before.requires.0), jobs-kept (jobs-walked (jobs-walked (jobs-kept c.before.before.before.before.before.before.before.before.before.before.before.before.before.before.before.before.before.before.before.before.before.before.before.before.requires.1.jobs c.before.before.before.before.before.before.before.before.before.before.before.before.before.before.before.before.before.token.ensures) (c.before.before.before.before.before.before.before.before.before.before.before.before.if-named.ensures defaultSettings _ (sp ++ token "on" ++ sp) refl refl).walked) c.before.before.before.before.before.before.before.before.directives.ensures) c.before.before.before.token2.ensures)
+inline-curly-requires t c κs = (omega (arith, c.before.before.before.before.before.before.before.before.before.before.before.before.before.before.before.before.before.before.before.before.before.before.before.before.requires.0), jobs_kept (jobs_walked (jobs_walked (jobs_kept c.before.before.before.before.before.before.before.before.before.before.before.before.before.before.before.before.before.before.before.before.before.before.before.before.requires.1.jobs c.before.before.before.before.before.before.before.before.before.before.before.before.before.before.before.before.before.token.ensures) (c.before.before.before.before.before.before.before.before.before.before.before.before.if-named.ensures default_settings _ (sp ++ token "on" ++ sp) refl refl).walked) c.before.before.before.before.before.before.before.before.directives.ensures) c.before.before.before.token2.ensures)
 
 inline-returns : (t : ℕ) → inline-lts.Need-returns (claims-inline t) (inline-at t) inline.Post
-unfolding ruleOf
-inline-returns t c = did-tokens (token "...") refl c.before.before.before.before.before.before.before.before.before.before.before.before.before.before.before.before.before.before.before.before.token.ensures ⨾ c.before.before.before.before.before.before.before.before.before.before.before.before.before.before.before.if-named.ensures _ _ (sp ++ token "on" ++ sp) refl refl ⨾ did-spaced _ c.before.before.before.before.before.before.before.before.before.before.before.directives.ensures ⨾ did-tokens (sp) refl c.before.before.before.before.before.before.token2.ensures ⨾ did-braces _ c.before.before.curly.ensures
+unfolding rule_of
+inline-returns t c = did_tokens (token "...") refl c.before.before.before.before.before.before.before.before.before.before.before.before.before.before.before.before.before.before.before.before.token.ensures ⨾ c.before.before.before.before.before.before.before.before.before.before.before.before.before.before.before.if-named.ensures _ _ (sp ++ token "on" ++ sp) refl refl ⨾ did_spaced _ c.before.before.before.before.before.before.before.before.before.before.before.directives.ensures ⨾ did_tokens (sp) refl c.before.before.before.before.before.before.token2.ensures ⨾ did_braces _ c.before.before.curly.ensures
 
 inline-same-length : (t : ℕ) → inline-lts.Need-same-length (claims-inline t) (inline-at t) inline.Post
-inline-same-length t c = wrote-length (inline-returns t c).walked.wrote
+inline-same-length t c = wrote_length (inline-returns t c).walked.wrote
 
 input-serialize-description-requires :
     (t : ℕ) → input-lts.Need-serialize-description-requires (
@@ -903,7 +903,7 @@ input-serialize-description-requires :
       directives-below t,
       directives.Post,
     ) (input-at t) input.Post
-input-serialize-description-requires t c κs = (rest-ranged c.before.before.before.before.before.requires.1.jobs.rest, c.before.before.before.before.before.requires.1.jobs.table)
+input-serialize-description-requires t c κs = (rest_ranged c.before.before.before.before.before.requires.1.jobs.rest, c.before.before.before.before.before.requires.1.jobs.table)
 
 input-name-requires : (t : ℕ) → input-lts.Need-name-requires (claims-input t) (input-at t) input.Post
 input-name-requires t c κs = c.before.before.before.before.before.before.before.before.before.requires.1.text
@@ -915,20 +915,20 @@ input-token-requires : (t : ℕ) → input-lts.Need-token-requires (claims-input
 input-token-requires t c κs = tt
 
 input-one-requires : (t : ℕ) → input-lts.Need-one-requires (claims-input t) (input-at t) input.Post
-input-one-requires t c κs = (omega (arith, c.before.before.before.before.before.before.before.before.before.before.before.before.before.before.before.before.before.before.requires.0), here (jobs-kept (jobs-kept (jobs-walked c.before.before.before.before.before.before.before.before.before.before.before.before.before.before.before.before.before.before.requires.1.jobs (c.before.before.before.before.before.before.before.before.before.before.before.before.serialize-description.ensures 0).walked) c.before.before.before.before.before.before.before.before.name.ensures) c.before.before.before.token.ensures))
+input-one-requires t c κs = (omega (arith, c.before.before.before.before.before.before.before.before.before.before.before.before.before.before.before.before.before.before.requires.0), here (jobs_kept (jobs_kept (jobs_walked c.before.before.before.before.before.before.before.before.before.before.before.before.before.before.before.before.before.before.requires.1.jobs (c.before.before.before.before.before.before.before.before.before.before.before.before.serialize-description.ensures 0).walked) c.before.before.before.before.before.before.before.before.name.ensures) c.before.before.before.token.ensures))
 
 input-default-requires : (t : ℕ) → input-lts.Need-default-requires (claims-input t) (input-at t) input.Post
-input-default-requires t c κs = (omega (arith, c.before.before.before.before.before.before.before.before.before.before.before.before.before.before.before.before.before.before.before.before.before.before.requires.0), here (jobs-walked (jobs-kept (jobs-kept (jobs-walked c.before.before.before.before.before.before.before.before.before.before.before.before.before.before.before.before.before.before.before.before.before.before.requires.1.jobs (c.before.before.before.before.before.before.before.before.before.before.before.before.before.before.before.before.serialize-description.ensures 0).walked) c.before.before.before.before.before.before.before.before.before.before.before.before.name.ensures) c.before.before.before.before.before.before.before.token.ensures) c.before.before.before.one.ensures))
+input-default-requires t c κs = (omega (arith, c.before.before.before.before.before.before.before.before.before.before.before.before.before.before.before.before.before.before.before.before.before.before.requires.0), here (jobs_walked (jobs_kept (jobs_kept (jobs_walked c.before.before.before.before.before.before.before.before.before.before.before.before.before.before.before.before.before.before.before.before.before.before.requires.1.jobs (c.before.before.before.before.before.before.before.before.before.before.before.before.before.before.before.before.serialize-description.ensures 0).walked) c.before.before.before.before.before.before.before.before.before.before.before.before.name.ensures) c.before.before.before.before.before.before.before.token.ensures) c.before.before.before.one.ensures))
 
 input-directives-requires : (t : ℕ) → input-lts.Need-directives-requires (claims-input t) (input-at t) input.Post
-input-directives-requires t c κs = (omega (arith, c.before.before.before.before.before.before.before.before.before.before.before.before.before.before.before.before.before.before.before.before.before.before.before.before.before.before.requires.0), here (jobs-walked (jobs-walked (jobs-kept (jobs-kept (jobs-walked c.before.before.before.before.before.before.before.before.before.before.before.before.before.before.before.before.before.before.before.before.before.before.before.before.before.before.requires.1.jobs (c.before.before.before.before.before.before.before.before.before.before.before.before.before.before.before.before.before.before.before.before.serialize-description.ensures 0).walked) c.before.before.before.before.before.before.before.before.before.before.before.before.before.before.before.before.name.ensures) c.before.before.before.before.before.before.before.before.before.before.before.token.ensures) c.before.before.before.before.before.before.before.one.ensures) (c.before.before.before.default.ensures 0).walked))
+input-directives-requires t c κs = (omega (arith, c.before.before.before.before.before.before.before.before.before.before.before.before.before.before.before.before.before.before.before.before.before.before.before.before.before.before.requires.0), here (jobs_walked (jobs_walked (jobs_kept (jobs_kept (jobs_walked c.before.before.before.before.before.before.before.before.before.before.before.before.before.before.before.before.before.before.before.before.before.before.before.before.before.before.requires.1.jobs (c.before.before.before.before.before.before.before.before.before.before.before.before.before.before.before.before.before.before.before.before.serialize-description.ensures 0).walked) c.before.before.before.before.before.before.before.before.before.before.before.before.before.before.before.before.name.ensures) c.before.before.before.before.before.before.before.before.before.before.before.token.ensures) c.before.before.before.before.before.before.before.one.ensures) (c.before.before.before.default.ensures 0).walked))
 
 input-returns : (t : ℕ) → input-lts.Need-returns (claims-input t) (input-at t) input.Post
-unfolding ruleOf
-input-returns t c = c.before.before.before.before.before.before.before.before.before.before.before.before.before.before.before.before.before.before.before.before.before.before.before.serialize-description.ensures _ ⨾ did-name c.before.before.before.before.before.before.before.before.before.before.before.before.before.before.before.before.before.before.before.name.ensures ⨾ did-tokens (token ":" ++ sp) refl c.before.before.before.before.before.before.before.before.before.before.before.before.before.before.token.ensures ⨾ did-one type c.before.before.before.before.before.before.before.before.before.before.one.ensures ⨾ c.before.before.before.before.before.before.default.ensures _ ⨾ did-spaced _ c.before.before.directives.ensures
+unfolding rule_of
+input-returns t c = c.before.before.before.before.before.before.before.before.before.before.before.before.before.before.before.before.before.before.before.before.before.before.before.serialize-description.ensures _ ⨾ did_name c.before.before.before.before.before.before.before.before.before.before.before.before.before.before.before.before.before.before.before.name.ensures ⨾ did_tokens (token ":" ++ sp) refl c.before.before.before.before.before.before.before.before.before.before.before.before.before.before.token.ensures ⨾ did_one type c.before.before.before.before.before.before.before.before.before.before.one.ensures ⨾ c.before.before.before.before.before.before.default.ensures _ ⨾ did_spaced _ c.before.before.directives.ensures
 
 input-same-length : (t : ℕ) → input-lts.Need-same-length (claims-input t) (input-at t) input.Post
-input-same-length t c = wrote-length (input-returns t c).walked.wrote
+input-same-length t c = wrote_length (input-returns t c).walked.wrote
 
 list-slice-aggregate-commas : (t : ℕ) → list-lts.Need-slice-aggregate-commas (claims-list t) (list_at t) list.Post
 list-slice-aggregate-commas t c = refl
@@ -942,11 +942,11 @@ list-commas-requires t c κs = (omega (arith, c.before.before.before.before.befo
 list-returns :
     (t : ℕ) →
     list-lts.Need-returns (claims-list t) (list_at t) list.Post
-unfolding ruleOf
-list-returns t c = λ n. did-commas _ c.before.before.commas.ensures
+unfolding rule_of
+list-returns t c = λ n. did_commas _ c.before.before.commas.ensures
 
 list-same-length : (t : ℕ) → list-lts.Need-same-length (claims-list t) (list_at t) list.Post
-list-same-length t c = wrote-length (list-returns t c 0).walked.wrote
+list-same-length t c = wrote_length (list-returns t c 0).walked.wrote
 
 object-slice-aggregate-commas : (t : ℕ) → object-lts.Need-slice-aggregate-commas (claims-object t) (object-at t) object.Post
 object-slice-aggregate-commas t c = refl
@@ -967,29 +967,29 @@ object-returns :
     (commas-below t, commas.Post)
     (object-at t)
     object.Post
-unfolding ruleOf
-object-returns t c = λ n. did-commas _ c.before.before.commas.ensures
+unfolding rule_of
+object-returns t c = λ n. did_commas _ c.before.before.commas.ensures
 
 object-same-length : (t : ℕ) → object-lts.Need-same-length (claims-object t) (object-at t) object.Post
-object-same-length t c = wrote-length (object-returns t c 0).walked.wrote
+object-same-length t c = wrote_length (object-returns t c 0).walked.wrote
 
 one-returns : (t : ℕ) → one-lts.Need-returns (claims-one t) (one_at t) one.Post
-one-returns t c = no_one _ c.if1.true (kept-none (record { place = omega arith; size = omega arith }))
+one-returns t c = no_one _ c.if1.true (kept_none (record { place = omega arith; size = omega arith }))
 
 one-serialize-impl-requires : (t : ℕ) → one-lts.Need-serialize-impl-requires (claims-one t) (one_at t) one.Post
-one-serialize-impl-requires t c κs = (omega (arith, c.before.before.before.before.before.before.before.before.before.requires.0), (first-job c.before.before.before.before.before.before.before.before.before.requires.1 c.before.if1.false, c.before.before.before.before.before.before.before.before.before.requires.1.rest.inner _ (omega arith) c.before.if1.false))
+one-serialize-impl-requires t c κs = (omega (arith, c.before.before.before.before.before.before.before.before.before.requires.0), (first_job c.before.before.before.before.before.before.before.before.before.requires.1 c.before.if1.false, c.before.before.before.before.before.before.before.before.before.requires.1.rest.inner _ (omega arith) c.before.if1.false))
 
 one-past-requires : (t : ℕ) → one-lts.Need-past-requires (claims-one t) (one_at t) one.Post
-one-past-requires t c κs = node-in-table c.before.before.before.before.before.before.before.before.before.before.before.before.requires.1.rest.shaped (rest-inside c.before.before.before.before.before.before.before.before.before.before.before.before.requires.1.rest c.before.before.before.before.if1.false)
+one-past-requires t c κs = node_in_table c.before.before.before.before.before.before.before.before.before.before.before.before.requires.1.rest.shaped (rest_inside c.before.before.before.before.before.before.before.before.before.before.before.before.requires.1.rest c.before.before.before.before.if1.false)
 
 one-same-length : (t : ℕ) → one-lts.Need-same-length (claims-one t) (one_at t) one.Post
-one-same-length t c = wrote-length c.before.before.before.serialize-impl.ensures
+one-same-length t c = wrote_length c.before.before.before.serialize-impl.ensures
 
 one-returns-2 : (t : ℕ) → one-lts.Need-returns-2 (claims-one t) (one_at t) one.Post
-one-returns-2 t c = one-done _ c.before.before.before.before.before.before.before.before.before.before.before.before.before.requires.1.rest c.before.before.before.before.before.if1.false c.before.before.before.serialize-impl.ensures refl c.past.ensures
+one-returns-2 t c = one_done _ c.before.before.before.before.before.before.before.before.before.before.before.before.before.requires.1.rest c.before.before.before.before.before.if1.false c.before.before.before.serialize-impl.ensures refl c.past.ensures
 
 opt-braces-is-next-requires : (t : ℕ) → opt-braces-lts.Need-is-next-requires (claims-opt-braces t) (opt-braces-at t) opt-braces.Post
-opt-braces-is-next-requires t c κs = rest-within c.before.before.before.before.requires.1.rest
+opt-braces-is-next-requires t c κs = rest_within c.before.before.before.before.requires.1.rest
 
 opt-braces-slice-aggregate-token : (t : ℕ) → opt-braces-lts.Need-slice-aggregate-token (claims-opt-braces t) (opt-braces-at t) opt-braces.Post
 opt-braces-slice-aggregate-token t c = refl
@@ -1006,43 +1006,43 @@ opt-braces-curly-requires :
       curly-below t,
       curly.Post,
     ) (opt-braces-at t) opt-braces.Post
-opt-braces-curly-requires t c κs = (omega (arith, c.before.before.before.before.before.before.before.before.before.before.before.before.requires.0), jobs-kept c.before.before.before.before.before.before.before.before.before.before.before.before.requires.1 c.before.before.before.token.ensures)
+opt-braces-curly-requires t c κs = (omega (arith, c.before.before.before.before.before.before.before.before.before.before.before.before.requires.0), jobs_kept c.before.before.before.before.before.before.before.before.before.before.before.before.requires.1 c.before.before.before.token.ensures)
 
 opt-braces-returns : (t : ℕ) → opt-braces-lts.Need-returns (claims-opt-braces t) (opt-braces-at t) opt-braces.Post
-opt-braces-returns t c = λ n. a-child _ (rest-ranged c.before.before.before.before.before.before.before.before.before.before.before.before.before.before.before.requires.1.rest) _ (sym c.before.before.before.before.before.before.before.before.before.before.is-next.ensures ∙ c.before.before.before.before.before.before.before.before.before.if1.true) (did-tokens sp refl c.before.before.before.before.before.before.token.ensures ⨾ did-braces _ c.before.before.curly.ensures)
+opt-braces-returns t c = λ n. a_child _ (rest_ranged c.before.before.before.before.before.before.before.before.before.before.before.before.before.before.before.requires.1.rest) _ (sym c.before.before.before.before.before.before.before.before.before.before.is-next.ensures ∙ c.before.before.before.before.before.before.before.before.before.if1.true) (did_tokens sp refl c.before.before.before.before.before.before.token.ensures ⨾ did_braces _ c.before.before.curly.ensures)
 
 opt-braces-same-length : (t : ℕ) → opt-braces-lts.Need-same-length (claims-opt-braces t) (opt-braces-at t) opt-braces.Post
-opt-braces-same-length t c = wrote-length (opt-braces-returns t c 0).walked.wrote
+opt-braces-same-length t c = wrote_length (opt-braces-returns t c 0).walked.wrote
 
 opt-braces-returns-2 : (t : ℕ) → opt-braces-lts.Need-returns-2 (claims-opt-braces t) (opt-braces-at t) opt-braces.Post
-opt-braces-returns-2 t c = λ n. no-child (sp ++ curlyBrackets _ ∷ []) (rest-ranged c.before.before.before.before.before.before.requires.1.rest) _ refl (sym c.before.is-next.ensures ∙ c.if1.false) (kept-none (record { place = omega arith; size = omega arith }))
+opt-braces-returns-2 t c = λ n. no_child (sp ++ curly_brackets _ ∷ []) (rest_ranged c.before.before.before.before.before.before.requires.1.rest) _ refl (sym c.before.is-next.ensures ∙ c.if1.false) (kept_none (record { place = omega arith; size = omega arith }))
 
 serialize-impl-kind-requires : (t : ℕ) → serialize-impl-lts.Need-kind-requires (claims-serialize-impl t) (serialize-impl-at t) serialize-impl.Post
-serialize-impl-kind-requires t c κs = job-in-table c.before.before.before.before.requires.1.0
+serialize-impl-kind-requires t c κs = job_in_table c.before.before.before.before.requires.1.0
 
 serialize-impl-end-requires : (t : ℕ) → serialize-impl-lts.Need-end-requires (claims-serialize-impl t) (serialize-impl-at t) serialize-impl.Post
-serialize-impl-end-requires t c κs = job-in-table c.before.before.before.before.before.requires.1.0
+serialize-impl-end-requires t c κs = job_in_table c.before.before.before.before.before.requires.1.0
 
 serialize-impl-sub-below : (t : ℕ) → serialize-impl-lts.Need-overflow-sub-below (claims-serialize-impl t) (serialize-impl-at t) serialize-impl.Post
-serialize-impl-sub-below t c = job-deep c.before.before.before.before.before.before.requires.1.0
+serialize-impl-sub-below t c = job_deep c.before.before.before.before.before.before.requires.1.0
 
 serialize-impl-add-t31 : (t : ℕ) → serialize-impl-lts.Need-overflow-add-t31 (claims-serialize-impl t) (serialize-impl-at t) serialize-impl.Post
-serialize-impl-add-t31 t c = omega (arith, (job-in-table c.before.before.before.before.before.before.before.requires.1.0).few)
+serialize-impl-add-t31 t c = omega (arith, (job_in_table c.before.before.before.before.before.before.before.requires.1.0).few)
 
 serialize-impl-string-value-requires : (t : ℕ) → serialize-impl-lts.Need-string-value-requires (claims-serialize-impl t) (serialize-impl-at t) serialize-impl.Post
-serialize-impl-string-value-requires t c κs = (job-text c.before.before.before.before.before.before.before.before.before.requires.1.0, c.before.before.before.before.before.before.before.before.before.requires.1.0.table)
+serialize-impl-string-value-requires t c κs = (job_text c.before.before.before.before.before.before.before.before.before.requires.1.0, c.before.before.before.before.before.before.before.before.before.requires.1.0.table)
 
 serialize-impl-directive-requires : (t : ℕ) → serialize-impl-lts.Need-directive-requires (claims-serialize-impl t) (serialize-impl-at t) serialize-impl.Post
-serialize-impl-directive-requires t c κs = (omega (arith, c.before.before.before.before.before.before.before.before.before.requires.0, job-deep c.before.before.before.before.before.before.before.before.before.requires.1.0), parts-of c.before.before.before.before.before.before.before.before.before.requires.1.0 c.before.before.before.end.ensures.is)
+serialize-impl-directive-requires t c κs = (omega (arith, c.before.before.before.before.before.before.before.before.before.requires.0, job_deep c.before.before.before.before.before.before.before.before.before.requires.1.0), parts_of_lem c.before.before.before.before.before.before.before.before.before.requires.1.0 c.before.before.before.end.ensures.is)
 
 serialize-impl-argument-requires : (t : ℕ) → serialize-impl-lts.Need-argument-requires (claims-serialize-impl t) (serialize-impl-at t) serialize-impl.Post
-serialize-impl-argument-requires t c κs = (omega (arith, c.before.before.before.before.before.before.before.before.before.requires.0, job-deep c.before.before.before.before.before.before.before.before.before.requires.1.0), parts-of c.before.before.before.before.before.before.before.before.before.requires.1.0 c.before.before.before.end.ensures.is)
+serialize-impl-argument-requires t c κs = (omega (arith, c.before.before.before.before.before.before.before.before.before.requires.0, job_deep c.before.before.before.before.before.before.before.before.before.requires.1.0), parts_of_lem c.before.before.before.before.before.before.before.before.before.requires.1.0 c.before.before.before.end.ensures.is)
 
 serialize-impl-variable-requires : (t : ℕ) → serialize-impl-lts.Need-variable-requires (claims-serialize-impl t) (serialize-impl-at t) serialize-impl.Post
-serialize-impl-variable-requires t c κs = (omega (arith, c.before.before.before.before.before.before.before.before.before.requires.0, job-deep c.before.before.before.before.before.before.before.before.before.requires.1.0), parts-of c.before.before.before.before.before.before.before.before.before.requires.1.0 c.before.before.before.end.ensures.is)
+serialize-impl-variable-requires t c κs = (omega (arith, c.before.before.before.before.before.before.before.before.before.requires.0, job_deep c.before.before.before.before.before.before.before.before.before.requires.1.0), parts_of_lem c.before.before.before.before.before.before.before.before.before.requires.1.0 c.before.before.before.end.ensures.is)
 
 serialize-impl-input-requires : (t : ℕ) → serialize-impl-lts.Need-input-requires (claims-serialize-impl t) (serialize-impl-at t) serialize-impl.Post
-serialize-impl-input-requires t c κs = (omega (arith, c.before.before.before.before.before.before.before.before.before.requires.0, job-deep c.before.before.before.before.before.before.before.before.before.requires.1.0), parts-of c.before.before.before.before.before.before.before.before.before.requires.1.0 c.before.before.before.end.ensures.is)
+serialize-impl-input-requires t c κs = (omega (arith, c.before.before.before.before.before.before.before.before.before.requires.0, job_deep c.before.before.before.before.before.before.before.before.before.requires.1.0), parts_of_lem c.before.before.before.before.before.before.before.before.before.requires.1.0 c.before.before.before.end.ensures.is)
 
 serialize-impl-field-def-requires :
     (t : ℕ) → serialize-impl-lts.Need-field-def-requires (
@@ -1081,167 +1081,167 @@ serialize-impl-field-def-requires :
       value-below t,
       value.Post,
     ) (serialize-impl-at t) serialize-impl.Post
-serialize-impl-field-def-requires t c κs = (omega (arith, c.before.before.before.before.before.before.before.before.before.requires.0, job-deep c.before.before.before.before.before.before.before.before.before.requires.1.0), parts-of c.before.before.before.before.before.before.before.before.before.requires.1.0 c.before.before.before.end.ensures.is)
+serialize-impl-field-def-requires t c κs = (omega (arith, c.before.before.before.before.before.before.before.before.before.requires.0, job_deep c.before.before.before.before.before.before.before.before.before.requires.1.0), parts_of_lem c.before.before.before.before.before.before.before.before.before.requires.1.0 c.before.before.before.end.ensures.is)
 
 serialize-impl-enum-value-requires : (t : ℕ) → serialize-impl-lts.Need-enum-value-requires (claims-serialize-impl t) (serialize-impl-at t) serialize-impl.Post
-serialize-impl-enum-value-requires t c κs = (omega (arith, c.before.before.before.before.before.before.before.before.before.requires.0, job-deep c.before.before.before.before.before.before.before.before.before.requires.1.0), parts-of c.before.before.before.before.before.before.before.before.before.requires.1.0 c.before.before.before.end.ensures.is)
+serialize-impl-enum-value-requires t c κs = (omega (arith, c.before.before.before.before.before.before.before.before.before.requires.0, job_deep c.before.before.before.before.before.before.before.before.before.requires.1.0), parts_of_lem c.before.before.before.before.before.before.before.before.before.requires.1.0 c.before.before.before.end.ensures.is)
 
 serialize-impl-root-operation-requires : (t : ℕ) → serialize-impl-lts.Need-root-operation-requires (claims-serialize-impl t) (serialize-impl-at t) serialize-impl.Post
-serialize-impl-root-operation-requires t c κs = job-text c.before.before.before.before.before.before.before.before.before.requires.1.0
+serialize-impl-root-operation-requires t c κs = job_text c.before.before.before.before.before.before.before.before.before.requires.1.0
 
 serialize-impl-name-requires : (t : ℕ) → serialize-impl-lts.Need-name-requires (claims-serialize-impl t) (serialize-impl-at t) serialize-impl.Post
-serialize-impl-name-requires t c κs = job-text c.before.before.before.before.before.before.before.before.before.requires.1.0
+serialize-impl-name-requires t c κs = job_text c.before.before.before.before.before.before.before.before.before.requires.1.0
 
 serialize-impl-name-requires-2 : (t : ℕ) → serialize-impl-lts.Need-name-requires-2 (claims-serialize-impl t) (serialize-impl-at t) serialize-impl.Post
-serialize-impl-name-requires-2 t c κs = job-text c.before.before.before.before.before.before.before.before.before.requires.1.0
+serialize-impl-name-requires-2 t c κs = job_text c.before.before.before.before.before.before.before.before.before.requires.1.0
 
 serialize-impl-location-requires : (t : ℕ) → serialize-impl-lts.Need-location-requires (claims-serialize-impl t) (serialize-impl-at t) serialize-impl.Post
-serialize-impl-location-requires t c κs = job-in-table c.before.before.before.before.before.before.before.before.before.requires.1.0
+serialize-impl-location-requires t c κs = job_in_table c.before.before.before.before.before.before.before.before.before.requires.1.0
 
 serialize-impl-field-requires : (t : ℕ) → serialize-impl-lts.Need-field-requires (claims-serialize-impl t) (serialize-impl-at t) serialize-impl.Post
-serialize-impl-field-requires t c κs = (omega (arith, c.before.before.before.before.before.before.before.before.before.requires.0, job-deep c.before.before.before.before.before.before.before.before.before.requires.1.0), parts-of c.before.before.before.before.before.before.before.before.before.requires.1.0 c.before.before.before.end.ensures.is)
+serialize-impl-field-requires t c κs = (omega (arith, c.before.before.before.before.before.before.before.before.before.requires.0, job_deep c.before.before.before.before.before.before.before.before.before.requires.1.0), parts_of_lem c.before.before.before.before.before.before.before.before.before.requires.1.0 c.before.before.before.end.ensures.is)
 
 serialize-impl-name-requires-3 : (t : ℕ) → serialize-impl-lts.Need-name-requires-3 (claims-serialize-impl t) (serialize-impl-at t) serialize-impl.Post
-serialize-impl-name-requires-3 t c κs = job-text c.before.before.before.before.before.before.before.before.before.requires.1.0
+serialize-impl-name-requires-3 t c κs = job_text c.before.before.before.before.before.before.before.before.before.requires.1.0
 
 serialize-impl-spread-requires : (t : ℕ) → serialize-impl-lts.Need-spread-requires (claims-serialize-impl t) (serialize-impl-at t) serialize-impl.Post
-serialize-impl-spread-requires t c κs = (omega (arith, c.before.before.before.before.before.before.before.before.before.requires.0, job-deep c.before.before.before.before.before.before.before.before.before.requires.1.0), parts-of c.before.before.before.before.before.before.before.before.before.requires.1.0 c.before.before.before.end.ensures.is)
+serialize-impl-spread-requires t c κs = (omega (arith, c.before.before.before.before.before.before.before.before.before.requires.0, job_deep c.before.before.before.before.before.before.before.before.before.requires.1.0), parts_of_lem c.before.before.before.before.before.before.before.before.before.requires.1.0 c.before.before.before.end.ensures.is)
 
 serialize-impl-inline-requires : (t : ℕ) → serialize-impl-lts.Need-inline-requires (claims-serialize-impl t) (serialize-impl-at t) serialize-impl.Post
-serialize-impl-inline-requires t c κs = (omega (arith, c.before.before.before.before.before.before.before.before.before.requires.0, job-deep c.before.before.before.before.before.before.before.before.before.requires.1.0), parts-of c.before.before.before.before.before.before.before.before.before.requires.1.0 c.before.before.before.end.ensures.is)
+serialize-impl-inline-requires t c κs = (omega (arith, c.before.before.before.before.before.before.before.before.before.requires.0, job_deep c.before.before.before.before.before.before.before.before.before.requires.1.0), parts_of_lem c.before.before.before.before.before.before.before.before.before.requires.1.0 c.before.before.before.end.ensures.is)
 
 serialize-impl-argument-requires-2 : (t : ℕ) → serialize-impl-lts.Need-argument-requires-2 (claims-serialize-impl t) (serialize-impl-at t) serialize-impl.Post
-serialize-impl-argument-requires-2 t c κs = (omega (arith, c.before.before.before.before.before.before.before.before.before.requires.0, job-deep c.before.before.before.before.before.before.before.before.before.requires.1.0), parts-of c.before.before.before.before.before.before.before.before.before.requires.1.0 c.before.before.before.end.ensures.is)
+serialize-impl-argument-requires-2 t c κs = (omega (arith, c.before.before.before.before.before.before.before.before.before.requires.0, job_deep c.before.before.before.before.before.before.before.before.before.requires.1.0), parts_of_lem c.before.before.before.before.before.before.before.before.before.requires.1.0 c.before.before.before.end.ensures.is)
 
 serialize-impl-serialize-type-requires : (t : ℕ) → serialize-impl-lts.Need-serialize-type-requires (claims-serialize-impl t) (serialize-impl-at t) serialize-impl.Post
-serialize-impl-serialize-type-requires t c κs = type-job c.before.before.before.before.before.before.before.before.before.before.before.requires.1.0 (a-type _ _ c.before.before.before.before.before.before.kind.ensures.is (past-from 18 15 _ c.before.before.if1.false c.before.before.before.match.rest.0) c.before.if2.true)
+serialize-impl-serialize-type-requires t c κs = type_job c.before.before.before.before.before.before.before.before.before.before.before.requires.1.0 (a_type _ _ c.before.before.before.before.before.before.kind.ensures.is (past_from 18 15 _ c.before.before.if1.false c.before.before.before.match.rest.0) c.before.if2.true)
 
 serialize-impl-value-requires : (t : ℕ) → serialize-impl-lts.Need-value-requires (claims-serialize-impl t) (serialize-impl-at t) serialize-impl.Post
-serialize-impl-value-requires t c κs = (omega (arith, c.before.before.before.before.before.before.before.before.before.before.before.before.requires.0, job-deep c.before.before.before.before.before.before.before.before.before.before.before.before.requires.1.0), (parts-of c.before.before.before.before.before.before.before.before.before.before.before.before.requires.1.0 c.before.before.before.before.before.before.end.ensures.is, omega arith, omega arith))
+serialize-impl-value-requires t c κs = (omega (arith, c.before.before.before.before.before.before.before.before.before.before.before.before.requires.0, job_deep c.before.before.before.before.before.before.before.before.before.before.before.before.requires.1.0), (parts_of_lem c.before.before.before.before.before.before.before.before.before.before.before.before.requires.1.0 c.before.before.before.before.before.before.end.ensures.is, omega arith, omega arith))
 
 serialize-impl-returns : (t : ℕ) → serialize-impl-lts.Need-returns (claims-serialize-impl t) (serialize-impl-at t) serialize-impl.Post
-unfolding ruleOf
-serialize-impl-returns t c = node-written (ap ruleOf (sym c.before.before.before.before.before.before.before.before.kind.ensures.is ∙ c.before.before.before.before.before.match.keys1)) c.before.before.before.before.before.before.before.end.ensures.is refl (did-literal true c.before.before.before.string-value.ensures)
+unfolding rule_of
+serialize-impl-returns t c = node_written (ap rule_of (sym c.before.before.before.before.before.before.before.before.kind.ensures.is ∙ c.before.before.before.before.before.match.keys1)) c.before.before.before.before.before.before.before.end.ensures.is refl (did_literal true c.before.before.before.string-value.ensures)
 
 serialize-impl-same-length : (t : ℕ) → serialize-impl-lts.Need-same-length (claims-serialize-impl t) (serialize-impl-at t) serialize-impl.Post
-serialize-impl-same-length t c = wrote-length (serialize-impl-returns t c)
+serialize-impl-same-length t c = wrote_length (serialize-impl-returns t c)
 
 serialize-impl-returns-2 : (t : ℕ) → serialize-impl-lts.Need-returns-2 (claims-serialize-impl t) (serialize-impl-at t) serialize-impl.Post
-unfolding ruleOf
-serialize-impl-returns-2 t c = node-written (ap ruleOf (sym c.before.before.before.before.before.before.before.before.kind.ensures.is ∙ c.before.before.before.before.before.match.keys2)) c.before.before.before.before.before.before.before.end.ensures.is refl c.before.before.before.directive.ensures
+unfolding rule_of
+serialize-impl-returns-2 t c = node_written (ap rule_of (sym c.before.before.before.before.before.before.before.before.kind.ensures.is ∙ c.before.before.before.before.before.match.keys2)) c.before.before.before.before.before.before.before.end.ensures.is refl c.before.before.before.directive.ensures
 
 serialize-impl-same-length-2 : (t : ℕ) → serialize-impl-lts.Need-same-length-2 (claims-serialize-impl t) (serialize-impl-at t) serialize-impl.Post
-serialize-impl-same-length-2 t c = wrote-length (serialize-impl-returns-2 t c)
+serialize-impl-same-length-2 t c = wrote_length (serialize-impl-returns-2 t c)
 
 serialize-impl-returns-3 : (t : ℕ) → serialize-impl-lts.Need-returns-3 (claims-serialize-impl t) (serialize-impl-at t) serialize-impl.Post
-unfolding ruleOf
-serialize-impl-returns-3 t c = node-written (ap ruleOf (sym c.before.before.before.before.before.before.before.before.kind.ensures.is ∙ c.before.before.before.before.before.match.keys3)) c.before.before.before.before.before.before.before.end.ensures.is refl c.before.before.before.argument.ensures
+unfolding rule_of
+serialize-impl-returns-3 t c = node_written (ap rule_of (sym c.before.before.before.before.before.before.before.before.kind.ensures.is ∙ c.before.before.before.before.before.match.keys3)) c.before.before.before.before.before.before.before.end.ensures.is refl c.before.before.before.argument.ensures
 
 serialize-impl-same-length-3 : (t : ℕ) → serialize-impl-lts.Need-same-length-3 (claims-serialize-impl t) (serialize-impl-at t) serialize-impl.Post
-serialize-impl-same-length-3 t c = wrote-length (serialize-impl-returns-3 t c)
+serialize-impl-same-length-3 t c = wrote_length (serialize-impl-returns-3 t c)
 
 serialize-impl-returns-4 : (t : ℕ) → serialize-impl-lts.Need-returns-4 (claims-serialize-impl t) (serialize-impl-at t) serialize-impl.Post
-unfolding ruleOf
-serialize-impl-returns-4 t c = node-written (ap ruleOf (sym c.before.before.before.before.before.before.before.before.kind.ensures.is ∙ c.before.before.before.before.before.match.keys4)) c.before.before.before.before.before.before.before.end.ensures.is refl c.before.before.before.variable.ensures
+unfolding rule_of
+serialize-impl-returns-4 t c = node_written (ap rule_of (sym c.before.before.before.before.before.before.before.before.kind.ensures.is ∙ c.before.before.before.before.before.match.keys4)) c.before.before.before.before.before.before.before.end.ensures.is refl c.before.before.before.variable.ensures
 
 serialize-impl-same-length-4 : (t : ℕ) → serialize-impl-lts.Need-same-length-4 (claims-serialize-impl t) (serialize-impl-at t) serialize-impl.Post
-serialize-impl-same-length-4 t c = wrote-length (serialize-impl-returns-4 t c)
+serialize-impl-same-length-4 t c = wrote_length (serialize-impl-returns-4 t c)
 
 serialize-impl-returns-5 : (t : ℕ) → serialize-impl-lts.Need-returns-5 (claims-serialize-impl t) (serialize-impl-at t) serialize-impl.Post
-unfolding ruleOf
-serialize-impl-returns-5 t c = node-written (ap ruleOf (sym c.before.before.before.before.before.before.before.before.kind.ensures.is ∙ c.before.before.before.before.before.match.keys5)) c.before.before.before.before.before.before.before.end.ensures.is refl c.before.before.before.input.ensures
+unfolding rule_of
+serialize-impl-returns-5 t c = node_written (ap rule_of (sym c.before.before.before.before.before.before.before.before.kind.ensures.is ∙ c.before.before.before.before.before.match.keys5)) c.before.before.before.before.before.before.before.end.ensures.is refl c.before.before.before.input.ensures
 
 serialize-impl-same-length-5 : (t : ℕ) → serialize-impl-lts.Need-same-length-5 (claims-serialize-impl t) (serialize-impl-at t) serialize-impl.Post
-serialize-impl-same-length-5 t c = wrote-length (serialize-impl-returns-5 t c)
+serialize-impl-same-length-5 t c = wrote_length (serialize-impl-returns-5 t c)
 
 serialize-impl-returns-6 : (t : ℕ) → serialize-impl-lts.Need-returns-6 (claims-serialize-impl t) (serialize-impl-at t) serialize-impl.Post
-unfolding ruleOf
-serialize-impl-returns-6 t c = node-written (ap ruleOf (sym c.before.before.before.before.before.before.before.before.kind.ensures.is ∙ c.before.before.before.before.before.match.keys6)) c.before.before.before.before.before.before.before.end.ensures.is refl c.before.before.before.field-def.ensures
+unfolding rule_of
+serialize-impl-returns-6 t c = node_written (ap rule_of (sym c.before.before.before.before.before.before.before.before.kind.ensures.is ∙ c.before.before.before.before.before.match.keys6)) c.before.before.before.before.before.before.before.end.ensures.is refl c.before.before.before.field-def.ensures
 
 serialize-impl-same-length-6 : (t : ℕ) → serialize-impl-lts.Need-same-length-6 (claims-serialize-impl t) (serialize-impl-at t) serialize-impl.Post
-serialize-impl-same-length-6 t c = wrote-length (serialize-impl-returns-6 t c)
+serialize-impl-same-length-6 t c = wrote_length (serialize-impl-returns-6 t c)
 
 serialize-impl-returns-7 : (t : ℕ) → serialize-impl-lts.Need-returns-7 (claims-serialize-impl t) (serialize-impl-at t) serialize-impl.Post
-unfolding ruleOf
-serialize-impl-returns-7 t c = node-written (ap ruleOf (sym c.before.before.before.before.before.before.before.before.kind.ensures.is ∙ c.before.before.before.before.before.match.keys7)) c.before.before.before.before.before.before.before.end.ensures.is refl c.before.before.before.enum-value.ensures
+unfolding rule_of
+serialize-impl-returns-7 t c = node_written (ap rule_of (sym c.before.before.before.before.before.before.before.before.kind.ensures.is ∙ c.before.before.before.before.before.match.keys7)) c.before.before.before.before.before.before.before.end.ensures.is refl c.before.before.before.enum-value.ensures
 
 serialize-impl-same-length-7 : (t : ℕ) → serialize-impl-lts.Need-same-length-7 (claims-serialize-impl t) (serialize-impl-at t) serialize-impl.Post
-serialize-impl-same-length-7 t c = wrote-length (serialize-impl-returns-7 t c)
+serialize-impl-same-length-7 t c = wrote_length (serialize-impl-returns-7 t c)
 
 serialize-impl-returns-8 : (t : ℕ) → serialize-impl-lts.Need-returns-8 (claims-serialize-impl t) (serialize-impl-at t) serialize-impl.Post
-unfolding ruleOf
-serialize-impl-returns-8 t c = node-written (ap ruleOf (sym c.before.before.before.before.before.before.before.before.kind.ensures.is ∙ c.before.before.before.before.before.match.keys8)) c.before.before.before.before.before.before.before.end.ensures.is refl (c.before.before.before.root-operation.ensures _ _)
+unfolding rule_of
+serialize-impl-returns-8 t c = node_written (ap rule_of (sym c.before.before.before.before.before.before.before.before.kind.ensures.is ∙ c.before.before.before.before.before.match.keys8)) c.before.before.before.before.before.before.before.end.ensures.is refl (c.before.before.before.root-operation.ensures _ _)
 
 serialize-impl-same-length-8 : (t : ℕ) → serialize-impl-lts.Need-same-length-8 (claims-serialize-impl t) (serialize-impl-at t) serialize-impl.Post
-serialize-impl-same-length-8 t c = wrote-length (serialize-impl-returns-8 t c)
+serialize-impl-same-length-8 t c = wrote_length (serialize-impl-returns-8 t c)
 
 serialize-impl-returns-9 : (t : ℕ) → serialize-impl-lts.Need-returns-9 (claims-serialize-impl t) (serialize-impl-at t) serialize-impl.Post
-unfolding ruleOf
-serialize-impl-returns-9 t c = node-written (ap ruleOf (sym c.before.before.before.before.before.before.before.before.kind.ensures.is ∙ c.before.before.before.before.before.match.keys9)) c.before.before.before.before.before.before.before.end.ensures.is refl (did-name c.before.before.before.name.ensures)
+unfolding rule_of
+serialize-impl-returns-9 t c = node_written (ap rule_of (sym c.before.before.before.before.before.before.before.before.kind.ensures.is ∙ c.before.before.before.before.before.match.keys9)) c.before.before.before.before.before.before.before.end.ensures.is refl (did_name c.before.before.before.name.ensures)
 
 serialize-impl-same-length-9 : (t : ℕ) → serialize-impl-lts.Need-same-length-9 (claims-serialize-impl t) (serialize-impl-at t) serialize-impl.Post
-serialize-impl-same-length-9 t c = wrote-length (serialize-impl-returns-9 t c)
+serialize-impl-same-length-9 t c = wrote_length (serialize-impl-returns-9 t c)
 
 serialize-impl-returns-10 : (t : ℕ) → serialize-impl-lts.Need-returns-10 (claims-serialize-impl t) (serialize-impl-at t) serialize-impl.Post
-unfolding ruleOf
-serialize-impl-returns-10 t c = node-written (ap ruleOf (sym c.before.before.before.before.before.before.before.before.kind.ensures.is ∙ c.before.before.before.before.before.match.keys10)) c.before.before.before.before.before.before.before.end.ensures.is refl (did-name c.before.before.before.name2.ensures)
+unfolding rule_of
+serialize-impl-returns-10 t c = node_written (ap rule_of (sym c.before.before.before.before.before.before.before.before.kind.ensures.is ∙ c.before.before.before.before.before.match.keys10)) c.before.before.before.before.before.before.before.end.ensures.is refl (did_name c.before.before.before.name2.ensures)
 
 serialize-impl-same-length-10 : (t : ℕ) → serialize-impl-lts.Need-same-length-10 (claims-serialize-impl t) (serialize-impl-at t) serialize-impl.Post
-serialize-impl-same-length-10 t c = wrote-length (serialize-impl-returns-10 t c)
+serialize-impl-same-length-10 t c = wrote_length (serialize-impl-returns-10 t c)
 
 serialize-impl-returns-11 : (t : ℕ) → serialize-impl-lts.Need-returns-11 (claims-serialize-impl t) (serialize-impl-at t) serialize-impl.Post
-unfolding ruleOf
-serialize-impl-returns-11 t c = node-written (ap ruleOf (sym c.before.before.before.before.before.before.before.before.kind.ensures.is ∙ c.before.before.before.before.before.match.keys11)) c.before.before.before.before.before.before.before.end.ensures.is refl (c.before.before.before.location.ensures _ _ _)
+unfolding rule_of
+serialize-impl-returns-11 t c = node_written (ap rule_of (sym c.before.before.before.before.before.before.before.before.kind.ensures.is ∙ c.before.before.before.before.before.match.keys11)) c.before.before.before.before.before.before.before.end.ensures.is refl (c.before.before.before.location.ensures _ _ _)
 
 serialize-impl-same-length-11 : (t : ℕ) → serialize-impl-lts.Need-same-length-11 (claims-serialize-impl t) (serialize-impl-at t) serialize-impl.Post
-serialize-impl-same-length-11 t c = wrote-length (serialize-impl-returns-11 t c)
+serialize-impl-same-length-11 t c = wrote_length (serialize-impl-returns-11 t c)
 
 serialize-impl-returns-12 : (t : ℕ) → serialize-impl-lts.Need-returns-12 (claims-serialize-impl t) (serialize-impl-at t) serialize-impl.Post
-unfolding ruleOf
-serialize-impl-returns-12 t c = node-written (ap ruleOf (sym c.before.before.before.before.before.before.before.before.kind.ensures.is ∙ c.before.before.before.before.before.match.keys12)) c.before.before.before.before.before.before.before.end.ensures.is refl c.before.before.before.field.ensures
+unfolding rule_of
+serialize-impl-returns-12 t c = node_written (ap rule_of (sym c.before.before.before.before.before.before.before.before.kind.ensures.is ∙ c.before.before.before.before.before.match.keys12)) c.before.before.before.before.before.before.before.end.ensures.is refl c.before.before.before.field.ensures
 
 serialize-impl-same-length-12 : (t : ℕ) → serialize-impl-lts.Need-same-length-12 (claims-serialize-impl t) (serialize-impl-at t) serialize-impl.Post
-serialize-impl-same-length-12 t c = wrote-length (serialize-impl-returns-12 t c)
+serialize-impl-same-length-12 t c = wrote_length (serialize-impl-returns-12 t c)
 
 serialize-impl-returns-13 : (t : ℕ) → serialize-impl-lts.Need-returns-13 (claims-serialize-impl t) (serialize-impl-at t) serialize-impl.Post
-unfolding ruleOf
-serialize-impl-returns-13 t c = node-written (ap ruleOf (sym c.before.before.before.before.before.before.before.before.kind.ensures.is ∙ c.before.before.before.before.before.match.keys13)) c.before.before.before.before.before.before.before.end.ensures.is refl (did-name c.before.before.before.name3.ensures)
+unfolding rule_of
+serialize-impl-returns-13 t c = node_written (ap rule_of (sym c.before.before.before.before.before.before.before.before.kind.ensures.is ∙ c.before.before.before.before.before.match.keys13)) c.before.before.before.before.before.before.before.end.ensures.is refl (did_name c.before.before.before.name3.ensures)
 
 serialize-impl-same-length-13 : (t : ℕ) → serialize-impl-lts.Need-same-length-13 (claims-serialize-impl t) (serialize-impl-at t) serialize-impl.Post
-serialize-impl-same-length-13 t c = wrote-length (serialize-impl-returns-13 t c)
+serialize-impl-same-length-13 t c = wrote_length (serialize-impl-returns-13 t c)
 
 serialize-impl-returns-14 : (t : ℕ) → serialize-impl-lts.Need-returns-14 (claims-serialize-impl t) (serialize-impl-at t) serialize-impl.Post
-unfolding ruleOf
-serialize-impl-returns-14 t c = node-written (ap ruleOf (sym c.before.before.before.before.before.before.before.before.kind.ensures.is ∙ c.before.before.before.before.before.match.keys14)) c.before.before.before.before.before.before.before.end.ensures.is refl c.before.before.before.spread.ensures
+unfolding rule_of
+serialize-impl-returns-14 t c = node_written (ap rule_of (sym c.before.before.before.before.before.before.before.before.kind.ensures.is ∙ c.before.before.before.before.before.match.keys14)) c.before.before.before.before.before.before.before.end.ensures.is refl c.before.before.before.spread.ensures
 
 serialize-impl-same-length-14 : (t : ℕ) → serialize-impl-lts.Need-same-length-14 (claims-serialize-impl t) (serialize-impl-at t) serialize-impl.Post
-serialize-impl-same-length-14 t c = wrote-length (serialize-impl-returns-14 t c)
+serialize-impl-same-length-14 t c = wrote_length (serialize-impl-returns-14 t c)
 
 serialize-impl-returns-15 : (t : ℕ) → serialize-impl-lts.Need-returns-15 (claims-serialize-impl t) (serialize-impl-at t) serialize-impl.Post
-unfolding ruleOf
-serialize-impl-returns-15 t c = node-written (ap ruleOf (sym c.before.before.before.before.before.before.before.before.kind.ensures.is ∙ c.before.before.before.before.before.match.keys15)) c.before.before.before.before.before.before.before.end.ensures.is refl c.before.before.before.inline.ensures
+unfolding rule_of
+serialize-impl-returns-15 t c = node_written (ap rule_of (sym c.before.before.before.before.before.before.before.before.kind.ensures.is ∙ c.before.before.before.before.before.match.keys15)) c.before.before.before.before.before.before.before.end.ensures.is refl c.before.before.before.inline.ensures
 
 serialize-impl-same-length-15 : (t : ℕ) → serialize-impl-lts.Need-same-length-15 (claims-serialize-impl t) (serialize-impl-at t) serialize-impl.Post
-serialize-impl-same-length-15 t c = wrote-length (serialize-impl-returns-15 t c)
+serialize-impl-same-length-15 t c = wrote_length (serialize-impl-returns-15 t c)
 
 serialize-impl-returns-16 : (t : ℕ) → serialize-impl-lts.Need-returns-16 (claims-serialize-impl t) (serialize-impl-at t) serialize-impl.Post
-unfolding ruleOf
-serialize-impl-returns-16 t c = node-written (ap ruleOf (sym c.before.before.before.before.before.before.before.before.kind.ensures.is ∙ c.before.before.before.before.before.match.keys16)) c.before.before.before.before.before.before.before.end.ensures.is refl c.before.before.before.argument2.ensures
+unfolding rule_of
+serialize-impl-returns-16 t c = node_written (ap rule_of (sym c.before.before.before.before.before.before.before.before.kind.ensures.is ∙ c.before.before.before.before.before.match.keys16)) c.before.before.before.before.before.before.before.end.ensures.is refl c.before.before.before.argument2.ensures
 
 serialize-impl-same-length-16 : (t : ℕ) → serialize-impl-lts.Need-same-length-16 (claims-serialize-impl t) (serialize-impl-at t) serialize-impl.Post
-serialize-impl-same-length-16 t c = wrote-length (serialize-impl-returns-16 t c)
+serialize-impl-same-length-16 t c = wrote_length (serialize-impl-returns-16 t c)
 
 serialize-impl-returns-17 : (t : ℕ) → serialize-impl-lts.Need-returns-17 (claims-serialize-impl t) (serialize-impl-at t) serialize-impl.Post
 serialize-impl-returns-17 t c = c.before.before.serialize-type.ensures _
 
 serialize-impl-same-length-17 : (t : ℕ) → serialize-impl-lts.Need-same-length-17 (claims-serialize-impl t) (serialize-impl-at t) serialize-impl.Post
-serialize-impl-same-length-17 t c = wrote-length (serialize-impl-returns-17 t c)
+serialize-impl-same-length-17 t c = wrote_length (serialize-impl-returns-17 t c)
 
 serialize-impl-returns-18 : (t : ℕ) → serialize-impl-lts.Need-returns-18 (claims-serialize-impl t) (serialize-impl-at t) serialize-impl.Post
-serialize-impl-returns-18 t c = node-written (ap ruleOf (sym c.before.before.before.before.before.before.before.before.before.before.before.kind.ensures.is)) c.before.before.before.before.before.before.before.before.before.before.end.ensures.is refl c.before.before.before.value.ensures
+serialize-impl-returns-18 t c = node_written (ap rule_of (sym c.before.before.before.before.before.before.before.before.before.before.before.kind.ensures.is)) c.before.before.before.before.before.before.before.before.before.before.end.ensures.is refl c.before.before.before.value.ensures
 
 serialize-impl-same-length-18 : (t : ℕ) → serialize-impl-lts.Need-same-length-18 (claims-serialize-impl t) (serialize-impl-at t) serialize-impl.Post
-serialize-impl-same-length-18 t c = wrote-length (serialize-impl-returns-18 t c)
+serialize-impl-same-length-18 t c = wrote_length (serialize-impl-returns-18 t c)
 
 serialize-impl-returns-19 : (t : ℕ) → serialize-impl-lts.Need-returns-19 (claims-serialize-impl t) (serialize-impl-at t) serialize-impl.Post
 serialize-impl-returns-19 t c = no-definition _ _ c.before.before.before.before.kind.ensures.is c.before.before.before.before.before.before.before.before.before.requires.1.1 c.if1.true
@@ -1250,7 +1250,7 @@ serialize-impl-returns-20 : (t : ℕ) → serialize-impl-lts.Need-returns-20 (cl
 serialize-impl-returns-20 t c = wrote_as (wrote_none (record { place = omega arith; size = omega arith })) (no_kind _ _ _ _ (past_all _ _ c.before.before.before.before.before.before.kind.ensures.is c.if3.false c.before.before.before.match.rest.1))
 
 signature-any-marked-requires : (t : ℕ) → signature-lts.Need-any-marked-requires (claims-signature t) (signature_at t) signature.Post
-signature-any-marked-requires t c κs = rest-ranged c.before.before.before.before.requires.1.rest
+signature-any-marked-requires t c κs = rest_ranged c.before.before.before.before.requires.1.rest
 
 signature-single-line-unless-requires : (t : ℕ) → signature-lts.Need-single-line-unless-requires (claims-signature t) (signature_at t) signature.Post
 signature-single-line-unless-requires t c κs = tt
@@ -1278,13 +1278,13 @@ signature-slice-aggregate-commas-2 :
 signature-slice-aggregate-commas-2 t c = refl
 
 signature-commas-requires : (t : ℕ) → signature-lts.Need-commas-requires (claims-signature t) (signature_at t) signature.Post
-signature-commas-requires t c κs = (omega (arith, c.before.before.before.before.before.before.before.before.before.requires.0), jobs-lines c.before.before.before.before.before.before.before.before.before.args.state c.before.before.before.before.any-marked.result c.before.before.before.before.before.before.before.before.before.requires.1 c.before.before.before.single-line-unless.ensures)
+signature-commas-requires t c κs = (omega (arith, c.before.before.before.before.before.before.before.before.before.requires.0), jobs_lines c.before.before.before.before.before.before.before.before.before.args.state c.before.before.before.before.any-marked.result c.before.before.before.before.before.before.before.before.before.requires.1 c.before.before.before.single-line-unless.ensures)
 
 signature-returns : (t : ℕ) → signature-lts.Need-returns (claims-signature t) (signature_at t) signature.Post
-signature-returns t c = λ n. did-lines (ofKind 22) _ c.before.before.before.before.before.before.before.any-marked.ensures (c.before.before.before.before.before.before.single-line-unless.ensures _) c.before.before.commas.ensures
+signature-returns t c = λ n. did_lines (of_kind 22) _ c.before.before.before.before.before.before.before.any-marked.ensures (c.before.before.before.before.before.before.single-line-unless.ensures _) c.before.before.commas.ensures
 
 signature-same-length : (t : ℕ) → signature-lts.Need-same-length (claims-signature t) (signature_at t) signature.Post
-signature-same-length t c = wrote-length (signature-returns t c 0).walked.wrote
+signature-same-length t c = wrote_length (signature-returns t c 0).walked.wrote
 
 spread-slice-aggregate-token : (t : ℕ) → spread-lts.Need-slice-aggregate-token (claims-spread t) (spread_at t) spread.Post
 spread-slice-aggregate-token t c = refl
@@ -1296,14 +1296,14 @@ spread-name-requires : (t : ℕ) → spread-lts.Need-name-requires (claims-sprea
 spread-name-requires t c κs = c.before.before.before.before.before.before.before.before.before.before.requires.1.text
 
 spread-directives-requires : (t : ℕ) → spread-lts.Need-directives-requires (claims-spread t) (spread_at t) spread.Post
-spread-directives-requires t c κs = (omega (arith, c.before.before.before.before.before.before.before.before.before.before.before.before.before.before.requires.0), here (jobs-kept (jobs-kept c.before.before.before.before.before.before.before.before.before.before.before.before.before.before.requires.1.jobs c.before.before.before.before.before.before.before.token.ensures) c.before.before.before.name.ensures))
+spread-directives-requires t c κs = (omega (arith, c.before.before.before.before.before.before.before.before.before.before.before.before.before.before.requires.0), here (jobs_kept (jobs_kept c.before.before.before.before.before.before.before.before.before.before.before.before.before.before.requires.1.jobs c.before.before.before.before.before.before.before.token.ensures) c.before.before.before.name.ensures))
 
 spread-returns : (t : ℕ) → spread-lts.Need-returns (claims-spread t) (spread_at t) spread.Post
-unfolding ruleOf
-spread-returns t c = did-tokens (token "...") refl c.before.before.before.before.before.before.before.before.before.before.token.ensures ⨾ did-name c.before.before.before.before.before.before.name.ensures ⨾ did-spaced _ c.before.before.directives.ensures
+unfolding rule_of
+spread-returns t c = did_tokens (token "...") refl c.before.before.before.before.before.before.before.before.before.before.token.ensures ⨾ did_name c.before.before.before.before.before.before.name.ensures ⨾ did_spaced _ c.before.before.directives.ensures
 
 spread-same-length : (t : ℕ) → spread-lts.Need-same-length (claims-spread t) (spread_at t) spread.Post
-spread-same-length t c = wrote-length (spread-returns t c).walked.wrote
+spread-same-length t c = wrote_length (spread-returns t c).walked.wrote
 
 value-slice-aggregate-token : (t : ℕ) → value-lts.Need-slice-aggregate-token (claims-value t) (value-at t) value.Post
 value-slice-aggregate-token t c = refl
@@ -1336,67 +1336,67 @@ value-object-requires : (t : ℕ) → value-lts.Need-object-requires (claims-val
 value-object-requires t c κs = (omega (arith, c.before.before.before.before.before.before.requires.0), c.before.before.before.before.before.before.requires.1.0.jobs)
 
 value-returns : (t : ℕ) → value-lts.Need-returns (claims-value t) (value-at t) value.Post
-unfolding ruleOf
-value-returns t c = rw c.before.before.before.before.before.match.keys1 (did-tokens (token "null") refl c.before.before.token.ensures)
+unfolding rule_of
+value-returns t c = rw c.before.before.before.before.before.match.keys1 (did_tokens (token "null") refl c.before.before.token.ensures)
 
 value-same-length : (t : ℕ) → value-lts.Need-same-length (claims-value t) (value-at t) value.Post
-value-same-length t c = wrote-length (value-returns t c).walked.wrote
+value-same-length t c = wrote_length (value-returns t c).walked.wrote
 
 value-returns-2 : (t : ℕ) → value-lts.Need-returns-2 (claims-value t) (value-at t) value.Post
-unfolding ruleOf
+unfolding rule_of
 value-returns-2 t c = rw c.before.before.before.before.match.keys2 (c.before.before.boolean.ensures _ _ _)
 
 value-same-length-2 : (t : ℕ) → value-lts.Need-same-length-2 (claims-value t) (value-at t) value.Post
-value-same-length-2 t c = wrote-length (value-returns-2 t c).walked.wrote
+value-same-length-2 t c = wrote_length (value-returns-2 t c).walked.wrote
 
 value-returns-3 : (t : ℕ) → value-lts.Need-returns-3 (claims-value t) (value-at t) value.Post
-unfolding ruleOf
-value-returns-3 t c = rw c.before.before.before.before.match.keys3 (did-name c.before.before.name.ensures)
+unfolding rule_of
+value-returns-3 t c = rw c.before.before.before.before.match.keys3 (did_name c.before.before.name.ensures)
 
 value-same-length-3 : (t : ℕ) → value-lts.Need-same-length-3 (claims-value t) (value-at t) value.Post
-value-same-length-3 t c = wrote-length (value-returns-3 t c).walked.wrote
+value-same-length-3 t c = wrote_length (value-returns-3 t c).walked.wrote
 
 value-returns-4 : (t : ℕ) → value-lts.Need-returns-4 (claims-value t) (value-at t) value.Post
-unfolding ruleOf
-value-returns-4 t c = rw c.before.before.before.before.match.keys4 (did-literal false c.before.before.string-value.ensures)
+unfolding rule_of
+value-returns-4 t c = rw c.before.before.before.before.match.keys4 (did_literal false c.before.before.string-value.ensures)
 
 value-same-length-4 : (t : ℕ) → value-lts.Need-same-length-4 (claims-value t) (value-at t) value.Post
-value-same-length-4 t c = wrote-length (value-returns-4 t c).walked.wrote
+value-same-length-4 t c = wrote_length (value-returns-4 t c).walked.wrote
 
 value-returns-5 : (t : ℕ) → value-lts.Need-returns-5 (claims-value t) (value-at t) value.Post
-unfolding ruleOf
+unfolding rule_of
 value-returns-5 t c = rw c.before.before.before.before.match.keys5 (c.before.before.variable-value.ensures _ _)
 
 value-same-length-5 : (t : ℕ) → value-lts.Need-same-length-5 (claims-value t) (value-at t) value.Post
-value-same-length-5 t c = wrote-length (value-returns-5 t c).walked.wrote
+value-same-length-5 t c = wrote_length (value-returns-5 t c).walked.wrote
 
 value-returns-6 : (t : ℕ) → value-lts.Need-returns-6 (claims-value t) (value-at t) value.Post
-unfolding ruleOf
-value-returns-6 t c = rw c.before.before.before.before.match.keys6 (did-name c.before.before.name2.ensures)
+unfolding rule_of
+value-returns-6 t c = rw c.before.before.before.before.match.keys6 (did_name c.before.before.name2.ensures)
 
 value-same-length-6 : (t : ℕ) → value-lts.Need-same-length-6 (claims-value t) (value-at t) value.Post
-value-same-length-6 t c = wrote-length (value-returns-6 t c).walked.wrote
+value-same-length-6 t c = wrote_length (value-returns-6 t c).walked.wrote
 
 value-returns-7 : (t : ℕ) → value-lts.Need-returns-7 (claims-value t) (value-at t) value.Post
-unfolding ruleOf
-value-returns-7 t c = rw c.before.before.before.before.match.keys7 (did-name c.before.before.name3.ensures)
+unfolding rule_of
+value-returns-7 t c = rw c.before.before.before.before.match.keys7 (did_name c.before.before.name3.ensures)
 
 value-same-length-7 : (t : ℕ) → value-lts.Need-same-length-7 (claims-value t) (value-at t) value.Post
-value-same-length-7 t c = wrote-length (value-returns-7 t c).walked.wrote
+value-same-length-7 t c = wrote_length (value-returns-7 t c).walked.wrote
 
 value-returns-8 : (t : ℕ) → value-lts.Need-returns-8 (claims-value t) (value-at t) value.Post
-unfolding ruleOf
+unfolding rule_of
 value-returns-8 t c = rw c.before.before.before.before.match.keys8 (c.before.before.list.ensures _)
 
 value-same-length-8 : (t : ℕ) → value-lts.Need-same-length-8 (claims-value t) (value-at t) value.Post
-value-same-length-8 t c = wrote-length (value-returns-8 t c).walked.wrote
+value-same-length-8 t c = wrote_length (value-returns-8 t c).walked.wrote
 
 value-returns-9 : (t : ℕ) → value-lts.Need-returns-9 (claims-value t) (value-at t) value.Post
-unfolding ruleOf
+unfolding rule_of
 value-returns-9 t c = let z = last_of 35 8 _ c.before.before.before.before.before.before.before.before.before.requires.1.1 c.before.before.before.before.before.before.before.before.before.requires.1.2 c.before.before.before.before.match.rest in rw z (c.before.before.object.ensures _)
 
 value-same-length-9 : (t : ℕ) → value-lts.Need-same-length-9 (claims-value t) (value-at t) value.Post
-value-same-length-9 t c = wrote-length (value-returns-9 t c).walked.wrote
+value-same-length-9 t c = wrote_length (value-returns-9 t c).walked.wrote
 
 variable-slice-aggregate-token : (t : ℕ) → variable-lts.Need-slice-aggregate-token (claims-variable t) (variable-at t) variable.Post
 variable-slice-aggregate-token t c = refl
@@ -1414,20 +1414,20 @@ variable-token-requires-2 : (t : ℕ) → variable-lts.Need-token-requires-2 (cl
 variable-token-requires-2 t c κs = tt
 
 variable-one-requires : (t : ℕ) → variable-lts.Need-one-requires (claims-variable t) (variable-at t) variable.Post
-variable-one-requires t c κs = (omega (arith, c.before.before.before.before.before.before.before.before.before.before.before.before.before.before.before.before.before.before.before.requires.0), here (jobs-kept (jobs-kept (jobs-kept c.before.before.before.before.before.before.before.before.before.before.before.before.before.before.before.before.before.before.before.requires.1.jobs c.before.before.before.before.before.before.before.before.before.before.before.before.token.ensures) c.before.before.before.before.before.before.before.before.name.ensures) c.before.before.before.token2.ensures))
+variable-one-requires t c κs = (omega (arith, c.before.before.before.before.before.before.before.before.before.before.before.before.before.before.before.before.before.before.before.requires.0), here (jobs_kept (jobs_kept (jobs_kept c.before.before.before.before.before.before.before.before.before.before.before.before.before.before.before.before.before.before.before.requires.1.jobs c.before.before.before.before.before.before.before.before.before.before.before.before.token.ensures) c.before.before.before.before.before.before.before.before.name.ensures) c.before.before.before.token2.ensures))
 
 variable-default-requires : (t : ℕ) → variable-lts.Need-default-requires (claims-variable t) (variable-at t) variable.Post
-variable-default-requires t c κs = (omega (arith, c.before.before.before.before.before.before.before.before.before.before.before.before.before.before.before.before.before.before.before.before.before.before.before.requires.0), here (jobs-walked (jobs-kept (jobs-kept (jobs-kept c.before.before.before.before.before.before.before.before.before.before.before.before.before.before.before.before.before.before.before.before.before.before.before.requires.1.jobs c.before.before.before.before.before.before.before.before.before.before.before.before.before.before.before.before.token.ensures) c.before.before.before.before.before.before.before.before.before.before.before.before.name.ensures) c.before.before.before.before.before.before.before.token2.ensures) c.before.before.before.one.ensures))
+variable-default-requires t c κs = (omega (arith, c.before.before.before.before.before.before.before.before.before.before.before.before.before.before.before.before.before.before.before.before.before.before.before.requires.0), here (jobs_walked (jobs_kept (jobs_kept (jobs_kept c.before.before.before.before.before.before.before.before.before.before.before.before.before.before.before.before.before.before.before.before.before.before.before.requires.1.jobs c.before.before.before.before.before.before.before.before.before.before.before.before.before.before.before.before.token.ensures) c.before.before.before.before.before.before.before.before.before.before.before.before.name.ensures) c.before.before.before.before.before.before.before.token2.ensures) c.before.before.before.one.ensures))
 
 variable-directives-requires : (t : ℕ) → variable-lts.Need-directives-requires (claims-variable t) (variable-at t) variable.Post
-variable-directives-requires t c κs = (omega (arith, c.before.before.before.before.before.before.before.before.before.before.before.before.before.before.before.before.before.before.before.before.before.before.before.before.before.before.before.requires.0), here (jobs-walked (jobs-walked (jobs-kept (jobs-kept (jobs-kept c.before.before.before.before.before.before.before.before.before.before.before.before.before.before.before.before.before.before.before.before.before.before.before.before.before.before.before.requires.1.jobs c.before.before.before.before.before.before.before.before.before.before.before.before.before.before.before.before.before.before.before.before.token.ensures) c.before.before.before.before.before.before.before.before.before.before.before.before.before.before.before.before.name.ensures) c.before.before.before.before.before.before.before.before.before.before.before.token2.ensures) c.before.before.before.before.before.before.before.one.ensures) (c.before.before.before.default.ensures 0).walked))
+variable-directives-requires t c κs = (omega (arith, c.before.before.before.before.before.before.before.before.before.before.before.before.before.before.before.before.before.before.before.before.before.before.before.before.before.before.before.requires.0), here (jobs_walked (jobs_walked (jobs_kept (jobs_kept (jobs_kept c.before.before.before.before.before.before.before.before.before.before.before.before.before.before.before.before.before.before.before.before.before.before.before.before.before.before.before.requires.1.jobs c.before.before.before.before.before.before.before.before.before.before.before.before.before.before.before.before.before.before.before.before.token.ensures) c.before.before.before.before.before.before.before.before.before.before.before.before.before.before.before.before.name.ensures) c.before.before.before.before.before.before.before.before.before.before.before.token2.ensures) c.before.before.before.before.before.before.before.one.ensures) (c.before.before.before.default.ensures 0).walked))
 
 variable-returns : (t : ℕ) → variable-lts.Need-returns (claims-variable t) (variable-at t) variable.Post
-unfolding ruleOf
-variable-returns t c = did-tokens (token "$") refl c.before.before.before.before.before.before.before.before.before.before.before.before.before.before.before.before.before.before.before.before.before.before.before.token.ensures ⨾ did-name c.before.before.before.before.before.before.before.before.before.before.before.before.before.before.before.before.before.before.before.name.ensures ⨾ did-tokens (token ":" ++ sp) refl c.before.before.before.before.before.before.before.before.before.before.before.before.before.before.token2.ensures ⨾ did-one type c.before.before.before.before.before.before.before.before.before.before.one.ensures ⨾ c.before.before.before.before.before.before.default.ensures _ ⨾ did-spaced _ c.before.before.directives.ensures
+unfolding rule_of
+variable-returns t c = did_tokens (token "$") refl c.before.before.before.before.before.before.before.before.before.before.before.before.before.before.before.before.before.before.before.before.before.before.before.token.ensures ⨾ did_name c.before.before.before.before.before.before.before.before.before.before.before.before.before.before.before.before.before.before.before.name.ensures ⨾ did_tokens (token ":" ++ sp) refl c.before.before.before.before.before.before.before.before.before.before.before.before.before.before.token2.ensures ⨾ did_one type c.before.before.before.before.before.before.before.before.before.before.one.ensures ⨾ c.before.before.before.before.before.before.default.ensures _ ⨾ did_spaced _ c.before.before.directives.ensures
 
 variable-same-length : (t : ℕ) → variable-lts.Need-same-length (claims-variable t) (variable-at t) variable.Post
-variable-same-length t c = wrote-length (variable-returns t c).walked.wrote
+variable-same-length t c = wrote_length (variable-returns t c).walked.wrote
 
 pub +argument-arguments-arguments-def-commas-curly-default-directive-directives-each-enum-value-field-field-def-inline-input-list-object-one-opt-braces-serialize-impl-signature-spread-value-variable-spec :
     {M : Type 1} → statement M

@@ -3,9 +3,9 @@ use mathlib.Core.Path.{◌≡◌, refl, sym, ◌∙◌}
 use Prim.Native.Nat.{◌≤◌, ◌-◌}
 use lib.ListN.{length, drop}
 use native.Mathlib.Omega.{arith}
-use Rattle.base.specs.Bools.{not-true, not-false}
+use Rattle.base.specs.Bools.{not_true, not_false}
 use Rattle.meaning.specs.Settings.{blank}
-use Rattle.settings.specs.Blanks.{blank-next, other_byte, blank-over}
+use Rattle.settings.specs.Blanks.{blank_next, other_byte, blank_over}
 use Rattle.settings.proofs.all_blank.Statement.{statement}
 use Rattle.settings.proofs.all_blank.Tie as tie
 
@@ -28,7 +28,7 @@ returns : tie.Need-returns invariant-loop decreases-loop
 returns c =
     let turn = c.before.before.before in
     let l = turn.before.loop in
-    sym (other_byte _ _ turn.loop-test.true (sym c.before.is-blank.ensures ∙ not-true _ c.if1.true)) ∙ l.invariant.1
+    sym (other_byte _ _ turn.loop-test.true (sym c.before.is-blank.ensures ∙ not_true _ c.if1.true)) ∙ l.invariant.1
 
 add-i : tie.Need-overflow-add-i invariant-loop decreases-loop
 add-i c = omega arith
@@ -40,10 +40,10 @@ loop-again : tie.Need-loop-preserved invariant-loop decreases-loop
 loop-again c =
     let turn = c.before.before.before in
     let l = turn.before.loop in
-    (omega arith, blank-next _ _ turn.loop-test.true (sym c.before.is-blank.ensures ∙ not-false _ c.if1.false) ∙ l.invariant.1)
+    (omega arith, blank_next _ _ turn.loop-test.true (sym c.before.is-blank.ensures ∙ not_false _ c.if1.false) ∙ l.invariant.1)
 
 returns-2 : tie.Need-returns-2 invariant-loop decreases-loop
-returns-2 c = sym (blank-over _ _ c.loop-test.false) ∙ c.before.loop.invariant.1
+returns-2 c = sym (blank_over _ _ c.loop-test.false) ∙ c.before.loop.invariant.1
 
 pub all-blank-spec : {M : Type 1} → statement M
 all-blank-spec =

@@ -4,7 +4,7 @@ use mathlib.Core.List.{List}
 use Prim.Native.Nat.{ℕ, ◌+◌, ◌-◌}
 use native.Mathlib.Omega.{arith}
 use lib.ListN.{take, drop}
-use Rattle.meaning.specs.Table.{textAt}
+use Rattle.meaning.specs.Table.{text_at}
 use borrow.Author.Rules.{rules}
 use Rattle.table.proofs.text.Statement.{statement}
 use Rattle.table.proofs.text.Tie as tie
@@ -31,7 +31,7 @@ part-result-end : tie.Need-slice-bounds-result-end
 part-result-end c = search rules
 
 returns : tie.Need-returns
-unfolding textAt
+unfolding text_at
 returns c =
     let n = c.before in
     part _ n.before.start.ensures.is n.length.ensures.is

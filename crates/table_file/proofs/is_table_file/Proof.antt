@@ -2,7 +2,7 @@
 use native.Mathlib.Omega.{arith}
 use lib.ListN.{length-take}
 use borrow.Author.Rules.{rules}
-use Rattle.table_file.specs.File.{isTableFile}
+use Rattle.table_file.specs.File.{is_table_file}
 use Rattle.table_file.proofs.Files.{too_short}
 use Rattle.table_file.proofs.is_table_file.Statement.{statement}
 use Rattle.table_file.proofs.is_table_file.Tie as tie
@@ -20,7 +20,7 @@ same-requires : tie.Need-same-requires
 same-requires c κs = search rules
 
 returns-2 : tie.Need-returns-2
-unfolding isTableFile
+unfolding is_table_file
 returns-2 c = c.same.ensures
 
 pub is-table-file-spec : {M : Type 1} → statement M

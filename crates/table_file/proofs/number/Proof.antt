@@ -1,6 +1,6 @@
 -- The four bytes are those of the place.
 use borrow.Author.Rules.{rules}
-use Rattle.table_file.proofs.Files.{number-of-bytes}
+use Rattle.table_file.proofs.Files.{number_of_bytes}
 use Rattle.table_file.proofs.number.Statement.{statement}
 use Rattle.table_file.proofs.number.Tie as tie
 
@@ -59,7 +59,7 @@ returns : tie.Need-returns
 returns c =
     let b = c.before.before in
     let a = b.before.before in
-    number-of-bytes _ _ _ _ _ _ a.before.before.wide.ensures.0 a.wide2.ensures.0 b.wide3.ensures.0 c.wide4.ensures.0
+    number_of_bytes _ _ _ _ _ _ a.before.before.wide.ensures.0 a.wide2.ensures.0 b.wide3.ensures.0 c.wide4.ensures.0
 
 pub number-spec : {M : Type 1} → statement M
 number-spec =

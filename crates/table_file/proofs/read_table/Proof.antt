@@ -2,8 +2,8 @@
 use mathlib.Core.Path.{sym}
 use native.Mathlib.Omega.{arith}
 use borrow.Author.Rules.{rules}
-use Rattle.table_file.specs.Within.{words-within}
-use Rattle.table_file.specs.Ways.{no_table, no_lengths, other_length, no_room, a-table}
+use Rattle.table_file.specs.Within.{words_within}
+use Rattle.table_file.specs.Ways.{no_table, no_lengths, other_length, no_room, a_table}
 use Rattle.table_file.proofs.read_table.Statement.{statement}
 use Rattle.table_file.proofs.read_table.Tie as tie
 
@@ -32,7 +32,7 @@ returns-2 c =
 store-words-requires : tie.Need-store-words-requires
 store-words-requires c κs =
     let b = c.before.before.before.before in
-    let w = words-within _ _ _ b.before.before.read_head.ensures b.n.given.1 in
+    let w = words_within _ _ _ b.before.before.read_head.ensures b.n.given.1 in
     (omega (arith, w), search rules)
 
 mul-t7 : tie.Need-overflow-mul-t7
@@ -54,7 +54,7 @@ returns-5 : tie.Need-returns-5
 returns-5 c =
     let d = c.before.before.before.before in
     let b = d.before.before.before in
-    sym (a-table _ _ b.before.before.read_head.ensures _ _ b.n.given.1 d.before.if1.false d.if2.false c.before.before.store_words_lem.ensures)
+    sym (a_table _ _ b.before.before.read_head.ensures _ _ b.n.given.1 d.before.if1.false d.if2.false c.before.before.store_words_lem.ensures)
 
 pub read-table-spec : {M : Type 1} → statement M
 read-table-spec =

@@ -5,14 +5,14 @@ use native.Mathlib.Omega.{arith}
 use lib.ListN.{length}
 use lib.Seq.{sets}
 use borrow.Author.Rules.{rules}
-use Rattle.table_file.specs.File.{numbersAt}
-use Rattle.table_file.proofs.Files.{store-number, store-none, store-all}
+use Rattle.table_file.specs.File.{numbers_at}
+use Rattle.table_file.proofs.Files.{store_number, store_none, store_all}
 use Rattle.table_file.proofs.store_words.Statement.{statement}
 use Rattle.table_file.proofs.store_words.Tie as tie
 
 abbrev invariant-loop : tie.invariant-loop
 invariant-loop file n out₀ i₀ out i =
-    (i ≤ n) × (length out ≡ length out₀) × (sets out i (numbersAt (n - i) file (16 + 4 * i)) ≡ sets out₀ 0 (numbersAt n file 16))
+    (i ≤ n) × (length out ≡ length out₀) × (sets out i (numbers_at (n - i) file (16 + 4 * i)) ≡ sets out₀ 0 (numbers_at n file 16))
 
 abbrev decreases-loop : tie.decreases-loop
 decreases-loop file n out₀ i₀ out i = n - i
@@ -44,7 +44,7 @@ loop-less c = search rules
 loop-again : tie.Need-loop-preserved invariant-loop decreases-loop
 loop-again c =
     let l = c.before.before.loop in
-    (omega arith, search rules, store-number _ _ l.i _ _ c.before.loop-test.true c.number.ensures ∙ l.invariant.2)
+    (omega arith, search rules, store_number _ _ l.i _ _ c.before.loop-test.true c.number.ensures ∙ l.invariant.2)
 
 same_length : tie.Need-same-length invariant-loop decreases-loop
 same_length c = search rules
@@ -53,7 +53,7 @@ returns : tie.Need-returns invariant-loop decreases-loop
 returns c =
     let l = c.before.loop in
     let a = c.before.before.before.before in
-    sym (store-none _ a.args.file.now l.i _ c.loop-test.false) ∙ l.invariant.2 ∙ store-all _ _ _ a.requires.1
+    sym (store_none _ a.args.file.now l.i _ c.loop-test.false) ∙ l.invariant.2 ∙ store_all _ _ _ a.requires.1
 
 pub store-words-spec : {M : Type 1} → statement M
 store-words-spec =

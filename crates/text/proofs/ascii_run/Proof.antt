@@ -3,7 +3,7 @@ use Prim.Native.Nat.{◌-◌}
 use native.Mathlib.Omega.{arith}
 use lib.ListN.{length}
 use borrow.Author.Rules.{rules}
-use Rattle.text.specs.Run.{AsciiTo, run-after-run, one-more-byte}
+use Rattle.text.specs.Run.{AsciiTo, run_after_run, one_more_byte}
 use Rattle.text.proofs.ascii_run.Statement.{statement}
 use Rattle.text.proofs.ascii_run.Tie as tie
 
@@ -24,7 +24,7 @@ loop-holds c =
     let a = c.before.before.before.args in
     let far = c.before.ascii-strides in
     let near = c.ascii-strides2 in
-    run-after-run a.s.now a.i far.result near.result far.ensures near.ensures
+    run_after_run a.s.now a.i far.result near.result far.ensures near.ensures
 
 shared-slice-read-if1 : tie.Need-shared-slice-read-if1 invariant-loop decreases-loop
 shared-slice-read-if1 c = omega arith
@@ -42,7 +42,7 @@ loop-again : tie.Need-loop-preserved invariant-loop decreases-loop
 loop-again c =
     let l = c.before.before.before in
     let a = l.before.before.before.before.args in
-    one-more-byte a.s.now a.i l.loop.at l.loop.invariant (omega arith) c.if1.false
+    one_more_byte a.s.now a.i l.loop.at l.loop.invariant (omega arith) c.if1.false
 
 returns-2 : tie.Need-returns-2 invariant-loop decreases-loop
 returns-2 c = record { run = c.before.loop.invariant; ends = λ h. absurd (omega arith) }

@@ -2,7 +2,7 @@
 use Prim.Native.Nat.{◌-◌}
 use native.Mathlib.Omega.{arith}
 use lib.ListN.{length}
-use Rattle.text.specs.Run.{AsciiTo, no-bytes-yet, more_bytes}
+use Rattle.text.specs.Run.{AsciiTo, no_bytes_yet, more_bytes}
 use Rattle.text.proofs.ascii_strides.Statement.{statement}
 use Rattle.text.proofs.ascii_strides.Tie as tie
 
@@ -13,7 +13,7 @@ abbrev decreases-loop : tie.decreases-loop
 decreases-loop s i n at₀ at = length s - at
 
 loop-holds : tie.Need-loop-init invariant-loop decreases-loop
-loop-holds c = no-bytes-yet c.before.args.s.now c.before.args.i c.before.requires.0
+loop-holds c = no_bytes_yet c.before.args.s.now c.before.args.i c.before.requires.0
 
 sub-loop : tie.Need-overflow-sub-loop invariant-loop decreases-loop
 sub-loop c = omega arith

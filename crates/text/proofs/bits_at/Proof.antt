@@ -2,7 +2,7 @@
 use Prim.Native.Nat.{ℕ, ◌+◌, ◌-◌, ◌≤◌, ◌<◌}
 use native.Mathlib.Omega.{arith}
 use lib.ListN.{get_or}
-use Rattle.text.specs.Bits.{none-above-or}
+use Rattle.text.specs.Bits.{none_above_or}
 use Rattle.text.proofs.bits_at.Statement.{statement}
 use Rattle.text.proofs.bits_at.Tie as tie
 
@@ -33,7 +33,7 @@ loop-again c =
     let a = l.before.args in (
       omega arith,
       λ j h u.
-          none-above-or (λ k. get_or a.s.now k 0) a.i (a.i + l.loop.k) l.loop.bits l.loop.invariant.1 j h (omega arith),
+          none_above_or (λ k. get_or a.s.now k 0) a.i (a.i + l.loop.k) l.loop.bits l.loop.invariant.1 j h (omega arith),
     )
 
 returns : tie.Need-returns invariant-loop decreases-loop

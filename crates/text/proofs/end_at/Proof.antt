@@ -6,16 +6,16 @@ use Prim.Native.Nat.{◌+◌, ◌≤◌, ◌<◌}
 use native.Mathlib.Omega.{arith}
 use lib.ListN.{drop}
 use borrow.Author.Rules.{rules}
-use Rattle.base.specs.Bools.{not-true, not-false}
+use Rattle.base.specs.Bools.{not_true, not_false}
 use Rattle.meaning.specs.Ascii.{if◌then◌else◌}
-use Rattle.text.specs.Sequence.{goodEnd}
-use Rattle.text.proofs.Ends.{end-stops, end-goes-on, end-is-reached, room, room-at-first, room-for-six-bits}
+use Rattle.text.specs.Sequence.{good_end}
+use Rattle.text.proofs.Ends.{end_stops, end_goes_on, end_is_reached, room, room_at_first, room_for_six_bits}
 use Rattle.text.proofs.end_at.Statement.{statement}
 use Rattle.text.proofs.end_at.Tie as tie
 
 abbrev invariant-loop : tie.invariant-loop
 invariant-loop s i k low own n₀ at₀ left₀ n at left =
-    (at + left ≡ i + k) × (left ≤ 3) × (n < room left) × (goodEnd left low n (drop at s) ≡ goodEnd k low own (drop i s))
+    (at + left ≡ i + k) × (left ≤ 3) × (n < room left) × (good_end left low n (drop at s) ≡ good_end k low own (drop i s))
 
 abbrev decreases-loop : tie.decreases-loop
 decreases-loop s i k low own n₀ at₀ left₀ n at left = left
@@ -24,7 +24,7 @@ loop-holds : tie.Need-loop-init invariant-loop decreases-loop
 loop-holds c =
     let a = c.before.args in
     let p = c.before.requires in
-    (refl, p.1, room-at-first a.k a.own_val p.1 p.2, refl)
+    (refl, p.1, room_at_first a.k a.own_val p.1 p.2, refl)
 
 byte-at-requires : tie.Need-byte-at-requires invariant-loop decreases-loop
 byte-at-requires c κs = search rules
@@ -38,8 +38,8 @@ returns c =
     let a = l.before.before.args in
     let b = c.before.before.byte_at in
     let stops =
-    end-stops a.s.now l.loop.at l.loop.left a.low l.loop.n b.result
-    c.before.before.before.loop-test.true b.ensures (sym c.before.goes_on.ensures ∙ not-true _ c.if1.true) in
+    end_stops a.s.now l.loop.at l.loop.left a.low l.loop.n b.result
+    c.before.before.before.loop-test.true b.ensures (sym c.before.goes_on.ensures ∙ not_true _ c.if1.true) in
     ap (λ (x : Bool). if x then a.k + 1 else 0) (sym stops ∙ l.loop.invariant.3)
 
 mul-n : tie.Need-overflow-mul-n invariant-loop decreases-loop
@@ -47,7 +47,7 @@ mul-n c =
     let l = c.before.before.before.before in
     let b = c.before.before.byte_at.result in
     let t = c.before.before.before.loop-test.true in
-    omega (arith, (room-for-six-bits l.loop.left l.loop.n b t l.loop.invariant.1 l.loop.invariant.2).1)
+    omega (arith, (room_for_six_bits l.loop.left l.loop.n b t l.loop.invariant.1 l.loop.invariant.2).1)
 
 cast-n : tie.Need-overflow-cast-n invariant-loop decreases-loop
 cast-n c = omega arith
@@ -57,7 +57,7 @@ add-n c =
     let l = c.before.before.before.before in
     let b = c.before.before.byte_at.result in
     let t = c.before.before.before.loop-test.true in
-    omega (arith, (room-for-six-bits l.loop.left l.loop.n b t l.loop.invariant.1 l.loop.invariant.2).1)
+    omega (arith, (room_for_six_bits l.loop.left l.loop.n b t l.loop.invariant.1 l.loop.invariant.2).1)
 
 add_at : tie.Need-overflow-add-at invariant-loop decreases-loop
 add_at c = omega arith
@@ -74,13 +74,13 @@ loop-again c =
     let a = l.before.before.args in
     let b = c.before.before.byte_at in
     let t = c.before.before.before.loop-test.true in
-    let goes_on =
-    end-goes-on a.s.now l.loop.at l.loop.left a.low l.loop.n b.result t b.ensures
-    (sym c.before.goes_on.ensures ∙ not-false _ c.if1.false) in (
+    let goes_on_lem =
+    end_goes_on a.s.now l.loop.at l.loop.left a.low l.loop.n b.result t b.ensures
+    (sym c.before.goes_on.ensures ∙ not_false _ c.if1.false) in (
       omega arith,
       omega arith,
-      (room-for-six-bits l.loop.left l.loop.n b.result t l.loop.invariant.1 l.loop.invariant.2).0,
-      sym goes_on ∙ l.loop.invariant.3,
+      (room_for_six_bits l.loop.left l.loop.n b.result t l.loop.invariant.1 l.loop.invariant.2).0,
+      sym goes_on_lem ∙ l.loop.invariant.3,
     )
 
 is-fine-requires : tie.Need-is-fine-requires invariant-loop decreases-loop
@@ -93,14 +93,14 @@ returns-2 : tie.Need-returns-2 invariant-loop decreases-loop
 returns-2 c =
     let l = c.before.before.before in
     let a = l.before.before.args in
-    let whole = end-is-reached l.loop.left a.low l.loop.n (drop l.loop.at a.s.now) c.before.before.loop-test.false in
+    let whole = end_is_reached l.loop.left a.low l.loop.n (drop l.loop.at a.s.now) c.before.before.loop-test.false in
     ap (λ (x : Bool). if x then a.k + 1 else 0) (sym c.if2.true ∙ c.before.is-fine.ensures ∙ sym whole ∙ l.loop.invariant.3)
 
 returns-3 : tie.Need-returns-3 invariant-loop decreases-loop
 returns-3 c =
     let l = c.before.before.before in
     let a = l.before.before.args in
-    let whole = end-is-reached l.loop.left a.low l.loop.n (drop l.loop.at a.s.now) c.before.before.loop-test.false in
+    let whole = end_is_reached l.loop.left a.low l.loop.n (drop l.loop.at a.s.now) c.before.before.loop-test.false in
     ap (λ (x : Bool). if x then a.k + 1 else 0) (sym c.if2.false ∙ c.before.is-fine.ensures ∙ sym whole ∙ l.loop.invariant.3)
 
 pub end-at-spec : {M : Type 1} → statement M

@@ -5,8 +5,8 @@ use Prim.Native.Nat.{◌+◌, ◌-◌}
 use native.Mathlib.Omega.{arith}
 use lib.ListN.{length, drop}
 use Rattle.meaning.specs.Utf8.{utf8}
-use Rattle.text.specs.Run.{ascii-byte-passes, ascii-run-passes}
-use Rattle.text.proofs.Places.{no-sequence-at, sequence-passes-at, sequence-is-short-at, nothing-is-left}
+use Rattle.text.specs.Run.{ascii_byte_passes, ascii_run_passes}
+use Rattle.text.proofs.Places.{no_sequence_at, sequence_passes_at, sequence_is_short_at, nothing_is_left}
 use Rattle.text.proofs.is_utf8.Statement.{statement}
 use Rattle.text.proofs.is_utf8.Tie as tie
 
@@ -35,8 +35,8 @@ loop-again : tie.Need-loop-preserved invariant-loop decreases-loop
 loop-again c =
     let l = c.before.before.before.before in
     let s = l.before.before.args.s.now in
-    let first = ascii-byte-passes s l.loop.i (omega arith) c.before.if1.true in
-    let others = ascii-run-passes s (l.loop.i + 1) c.ascii_run.result c.ascii_run.ensures.run in
+    let first = ascii_byte_passes s l.loop.i (omega arith) c.before.if1.true in
+    let others = ascii_run_passes s (l.loop.i + 1) c.ascii_run.result c.ascii_run.ensures.run in
     sym (first ∙ others) ∙ l.loop.invariant
 
 sequence-at-requires : tie.Need-sequence-at-requires invariant-loop decreases-loop
@@ -47,14 +47,14 @@ returns c =
     let l = c.before.before.before.before.before in
     let s = l.before.before.args.s.now in
     let n = c.before.sequence-at in
-    sym (no-sequence-at s l.loop.i n.result (omega arith) n.ensures c.if2.true) ∙ l.loop.invariant
+    sym (no_sequence_at s l.loop.i n.result (omega arith) n.ensures c.if2.true) ∙ l.loop.invariant
 
 add-i : tie.Need-overflow-add-i invariant-loop decreases-loop
 add-i c =
     let l = c.before.before.before.before.before in
     let s = l.before.before.args.s.now in
     let n = c.before.sequence-at in
-    omega (arith, sequence-is-short-at s l.loop.i n.result (omega arith) n.ensures)
+    omega (arith, sequence_is_short_at s l.loop.i n.result (omega arith) n.ensures)
 
 loop-less-2 : tie.Need-loop-smaller-2 invariant-loop decreases-loop
 loop-less-2 c = omega arith
@@ -64,12 +64,12 @@ loop-again-2 c =
     let l = c.before.before.before.before.before in
     let s = l.before.before.args.s.now in
     let n = c.before.sequence-at in
-    sym (sequence-passes-at s l.loop.i n.result (omega arith) n.ensures c.if2.false) ∙ l.loop.invariant
+    sym (sequence_passes_at s l.loop.i n.result (omega arith) n.ensures c.if2.false) ∙ l.loop.invariant
 
 returns-2 : tie.Need-returns-2 invariant-loop decreases-loop
 returns-2 c =
     let l = c.before in
-    sym (nothing-is-left l.before.before.args.s.now l.loop.i c.loop-test.false) ∙ l.loop.invariant
+    sym (nothing_is_left l.before.before.args.s.now l.loop.i c.loop-test.false) ∙ l.loop.invariant
 
 pub is-utf8-spec : {M : Type 1} → statement M
 is-utf8-spec =

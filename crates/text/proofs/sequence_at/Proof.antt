@@ -1,7 +1,7 @@
 -- What is left at i begins with the byte b, and `sequence` goes by the leading ones of b as the arms do.
 use native.Mathlib.Omega.{arith}
 use borrow.Author.Rules.{rules}
-use Rattle.text.proofs.Places.{one-byte-at, two-bytes-at, three-bytes-at, four-bytes-at, no-lead-byte-at}
+use Rattle.text.proofs.Places.{one_byte_at, two_bytes_at, three_bytes_at, four_bytes_at, no_lead_byte_at}
 use Rattle.text.proofs.sequence_at.Statement.{statement}
 use Rattle.text.proofs.sequence_at.Tie as tie
 
@@ -41,24 +41,24 @@ end-at-requires-3 c κs = search rules
 returns : tie.Need-returns
 returns c =
     let f = c.before.before.before.before in
-    one-byte-at f.args.s.now f.args.i f.requires (omega (arith, c.before.leading_ones.ensures))
+    one_byte_at f.args.s.now f.args.i f.requires (omega (arith, c.before.leading_ones.ensures))
 
 returns-2 : tie.Need-returns-2
 returns-2 c =
     let f = c.before.before.before.before.before in
-    two-bytes-at f.args.s.now f.args.i c.end-at.result f.requires
+    two_bytes_at f.args.s.now f.args.i c.end-at.result f.requires
     (omega (arith, c.before.before.leading_ones.ensures)) c.end-at.ensures
 
 returns-3 : tie.Need-returns-3
 returns-3 c =
     let f = c.before.before.before.before.before in
-    three-bytes-at f.args.s.now f.args.i c.end-at2.result f.requires
+    three_bytes_at f.args.s.now f.args.i c.end-at2.result f.requires
     (omega (arith, c.before.before.leading_ones.ensures)) c.end-at2.ensures
 
 returns-4 : tie.Need-returns-4
 returns-4 c =
     let f = c.before.before.before.before.before in
-    four-bytes-at f.args.s.now f.args.i c.end-at3.result f.requires
+    four_bytes_at f.args.s.now f.args.i c.end-at3.result f.requires
     (omega (arith, c.before.before.leading_ones.ensures)) c.end-at3.ensures
 
 returns-5 : tie.Need-returns-5
@@ -66,7 +66,7 @@ returns-5 c =
     let f = c.before.before.before.before in
     let ones = c.before.leading_ones in
     let other = c.match.rest in
-    no-lead-byte-at f.args.s.now f.args.i ones.result f.requires ones.ensures
+    no_lead_byte_at f.args.s.now f.args.i ones.result f.requires ones.ensures
     other.0.0.0.1 other.0.0.1 other.0.1 other.1
 
 pub sequence-at-spec : {M : Type 1} → statement M

@@ -4,13 +4,13 @@ use mathlib.Core.Bool.{false}
 use Prim.Native.Nat.{ℕ, ◌-◌, ◌≤◌, ◌<◌}
 use native.Mathlib.Omega.{arith}
 use borrow.Author.Count.{below_none, below_more}
-use Rattle.meaning.specs.Refusals.{textFault}
-use Rattle.table_laws.specs.First.{first-hit, first-none}
+use Rattle.meaning.specs.Refusals.{text_fault}
+use Rattle.table_laws.specs.First.{first_hit, first_none}
 use Rattle.texts.proofs.first_fault.Statement.{statement}
 use Rattle.texts.proofs.first_fault.Tie as tie
 
 abbrev invariant-loop : tie.invariant-loop
-invariant-loop words pool limits mask n i₀ i = (i ≤ n) × ((k : ℕ) → k < i → textFault words pool k ≡ false)
+invariant-loop words pool limits mask n i₀ i = (i ≤ n) × ((k : ℕ) → k < i → text_fault words pool k ≡ false)
 
 abbrev decreases-loop : tie.decreases-loop
 decreases-loop words pool limits mask n i₀ i = n - i
@@ -26,7 +26,7 @@ fault-at-requires c κs =
 
 returns : tie.Need-returns invariant-loop decreases-loop
 returns c =
-    first-hit (omega arith) c.before.before.before.loop.invariant.1 (sym c.before.fault-at.ensures ∙ c.if1.true)
+    first_hit (omega arith) c.before.before.before.loop.invariant.1 (sym c.before.fault-at.ensures ∙ c.if1.true)
 
 add-i : tie.Need-overflow-add-i invariant-loop decreases-loop
 add-i c = omega arith
@@ -39,7 +39,7 @@ loop-again c =
     (omega arith, below_more _ _ c.before.before.before.loop.invariant.1 (sym c.before.fault-at.ensures ∙ c.if1.false))
 
 returns-2 : tie.Need-returns-2 invariant-loop decreases-loop
-returns-2 c = first-none (λ k l. c.before.loop.invariant.1 k (omega arith))
+returns-2 c = first_none (λ k l. c.before.loop.invariant.1 k (omega arith))
 
 pub first-fault-spec : {M : Type 1} → statement M
 first-fault-spec =

@@ -1,12 +1,12 @@
 -- The tables lent are the ones that are shown to be right.
 use borrow.Author.Rules.{rules}
-use Rattle.texts.proofs.Plain.{limits, mask, limits-right, mask_full}
+use Rattle.texts.proofs.Plain.{limits, mask, limits_right, mask_full}
 use Rattle.texts.proofs.first_text_fault.Statement.{statement}
 use Rattle.texts.proofs.first_text_fault.Tie as tie
 
 first-fault-requires : tie.Need-first-fault-requires
 unfolding limits mask
-first-fault-requires c κs = (limits-right, mask_full, search rules)
+first-fault-requires c κs = (limits_right, mask_full, search rules)
 
 returns : tie.Need-returns
 returns c = search rules

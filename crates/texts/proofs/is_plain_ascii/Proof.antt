@@ -1,5 +1,5 @@
 -- The bits say that every byte of the text is ASCII.
-use Rattle.texts.proofs.Plain.{seen-ascii}
+use Rattle.texts.proofs.Plain.{seen_ascii}
 use Rattle.base.specs.Bools.{clash}
 use borrow.Author.Tests.{ltb-true}
 use native.Mathlib.Omega.{arith}
@@ -17,7 +17,7 @@ text-bits-requires c κs = search rules
 returns-2 : tie.Need-returns-2
 returns-2 c e =
     let entry = c.before.before.before in
-    seen-ascii entry.args.pool.now entry.args.mask.now entry.requires.0 entry.args.start entry.args.n
+    seen_ascii entry.args.pool.now entry.args.mask.now entry.requires.0 entry.args.start entry.args.n
     entry.requires.1 (omega arith) c.text-bits.result
     c.text-bits.ensures (ltb-true c.text-bits.result 0x80 e)
 

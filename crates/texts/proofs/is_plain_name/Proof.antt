@@ -1,5 +1,5 @@
 -- The tests are the kind's limits, and the bits say that every byte is a name's.
-use Rattle.texts.proofs.Plain.{narrow, seen-name}
+use Rattle.texts.proofs.Plain.{narrow, seen_name}
 use Rattle.meaning.specs.Children.{row_of}
 use Rattle.base.specs.Bools.{clash}
 use borrow.Author.Tests.{eqb-true}
@@ -64,7 +64,7 @@ returns-5 : tie.Need-returns-5
 returns-5 c e =
     let entry = c.before.before.before.before.before.before.before.before.before.before.before.before.before in
     let row = entry.requires.0.each entry.args.kind (omega arith) in
-    seen-name entry.args.pool.now entry.args.mask.now entry.requires.1 entry.args.start entry.args.n
+    seen_name entry.args.pool.now entry.args.mask.now entry.requires.1 entry.args.start entry.args.n
     entry.requires.3 entry.args.limits.now entry.args.kind row
     (omega arith) (omega arith) (omega arith) (omega arith)
     (λ j l. let z = eqb-true c.strange-bits.result 0 e in omega (arith, z, c.strange-bits.ensures j l))

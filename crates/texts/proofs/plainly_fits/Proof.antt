@@ -1,5 +1,5 @@
 -- A look through the window shows that the text fits its kind's rule.
-use Rattle.texts.proofs.Fits.{no-fault-by-words, no-fault-of-any-text}
+use Rattle.texts.proofs.Fits.{no_fault_by_words, no_fault_of_any_text}
 use Rattle.base.specs.Bools.{clash}
 use mathlib.Core.Path.{refl}
 use borrow.Author.Rules.{rules}
@@ -30,7 +30,7 @@ returns-2 c e =
     let at-kind = at_length.before in
     let at-start = at-kind.before.before in
     let entry = at-start.before.before.before in
-    no-fault-by-words entry.args.words.now entry.args.pool.now entry.args.i.0 at-kind.kind.result
+    no_fault_by_words entry.args.words.now entry.args.pool.now entry.args.i.0 at-kind.kind.result
     at-start.start.result at_length.length.result
     at-kind.kind.ensures at-start.start.ensures at_length.length.ensures (c.before.is-plain-name.ensures c.if2.true)
 
@@ -46,7 +46,7 @@ returns-3 c e =
     let at-kind = at_length.before in
     let at-start = at-kind.before.before in
     let entry = at-start.before.before.before in
-    no-fault-of-any-text entry.args.words.now entry.args.pool.now entry.args.i.0 at-kind.kind.result
+    no_fault_of_any_text entry.args.words.now entry.args.pool.now entry.args.i.0 at-kind.kind.result
     at-start.start.result at_length.length.result
     at-kind.kind.ensures at-start.start.ensures at_length.length.ensures
     (c.before.before.takes-any-text.ensures c.before.if3.true) (c.is-plain-ascii.ensures e)

@@ -3,8 +3,8 @@ use mathlib.Core.Path.{refl}
 use mathlib.Core.List.{List, [], ◌∷◌}
 use Prim.Native.Nat.{ℕ}
 use native.Mathlib.Omega.{arith}
-use Rattle.meaning.specs.Children.{name, noText, row_of}
-use Rattle.texts.proofs.Arms.{by-range}
+use Rattle.meaning.specs.Children.{name, no_text, row_of}
+use Rattle.texts.proofs.Arms.{by_range}
 use Rattle.texts.proofs.rule_of.Statement.{statement}
 use Rattle.texts.proofs.rule_of.Tie as tie
 
@@ -55,19 +55,19 @@ returns-14 : tie.Need-returns-14
 returns-14 c = unfold row_of in rw c.match.keys14
 
 returns-15 : tie.Need-returns-15
-returns-15 c = by-range noText 34 3 single (unfold row_of in refl) _ (omega arith) c.before.before.match.rest
+returns-15 c = by_range no_text 34 3 single (unfold row_of in refl) _ (omega arith) c.before.before.match.rest
 
 returns-16 : tie.Need-returns-16
-returns-16 c = by-range noText 40 4 single (unfold row_of in refl) _ (omega arith) c.before.before.before.before.match.rest
+returns-16 c = by_range no_text 40 4 single (unfold row_of in refl) _ (omega arith) c.before.before.before.before.match.rest
 
 returns-17 : tie.Need-returns-17
-returns-17 c = by-range name 0 34 single (unfold row_of in refl) _ (omega arith) c.before.match.rest
+returns-17 c = by_range name 0 34 single (unfold row_of in refl) _ (omega arith) c.before.match.rest
 
 returns-18 : tie.Need-returns-18
-returns-18 c = by-range name 37 3 single (unfold row_of in refl) _ (omega arith) c.before.before.before.match.rest
+returns-18 c = by_range name 37 3 single (unfold row_of in refl) _ (omega arith) c.before.before.before.match.rest
 
 returns-19 : tie.Need-returns-19
-returns-19 c = by-range name 44 1 single (unfold row_of in refl) _ (omega arith) c.before.before.before.before.match.rest
+returns-19 c = by_range name 44 1 single (unfold row_of in refl) _ (omega arith) c.before.before.before.before.match.rest
 
 pub rule-of-spec : {M : Type 1} → statement M
 rule-of-spec =

@@ -1,6 +1,6 @@
 -- None of what the bytes passed give is above the bits so far, and one more byte's bits keep that.
-use Rattle.texts.specs.Plain.{byteThrough}
-use Rattle.text.specs.Bits.{none-above-or}
+use Rattle.texts.specs.Plain.{byte_through}
+use Rattle.text.specs.Bits.{none_above_or}
 use borrow.Author.Rules.{rules}
 use native.Mathlib.Omega.{arith}
 use mathlib.Core.Path.{◌≡◌}
@@ -10,7 +10,7 @@ use Rattle.texts.proofs.text_bits.Tie as tie
 
 abbrev invariant-loop : tie.invariant-loop
 invariant-loop pool mask start n from bits₀ k₀ bits k =
-    (k ≤ 64) × (from + n ≡ 64) × ((j : ℕ) → 0 ≤ j → j < k → byteThrough pool mask start n j ≤ bits)
+    (k ≤ 64) × (from + n ≡ 64) × ((j : ℕ) → 0 ≤ j → j < k → byte_through pool mask start n j ≤ bits)
 
 abbrev decreases-loop : tie.decreases-loop
 decreases-loop pool mask start n from bits₀ k₀ bits k = 64 - k
@@ -50,7 +50,7 @@ loop-again c =
       omega arith,
       λ j h u.
           rw c.lesser.ensures
-          (none-above-or (byteThrough entry.args.pool.now entry.args.mask.now entry.args.start entry.args.n) 0 at-loop.loop.k at-loop.loop.bits at-loop.loop.invariant.2 j h u),
+          (none_above_or (byte_through entry.args.pool.now entry.args.mask.now entry.args.start entry.args.n) 0 at-loop.loop.k at-loop.loop.bits at-loop.loop.invariant.2 j h u),
     )
 
 returns : tie.Need-returns invariant-loop decreases-loop

@@ -1,6 +1,6 @@
 -- The text is cut out by the node's words, and its rule is that of the node's kind.
 use borrow.Author.Rules.{rules}
-use Rattle.texts.proofs.Fits.{fault-by-words}
+use Rattle.texts.proofs.Fits.{fault_by_words}
 use Rattle.texts.proofs.text_fault.Statement.{statement}
 use Rattle.texts.proofs.text_fault.Tie as tie
 
@@ -36,7 +36,7 @@ returns c =
     let r = c.before.before in
     let k = r.before.before.before in
     let a = k.before.before.before.args in
-    fault-by-words a.words.now a.pool.now a.i.0 _ _ _ _ _ k.kind.ensures r.before.before.start.ensures
+    fault_by_words a.words.now a.pool.now a.i.0 _ _ _ _ _ k.kind.ensures r.before.before.start.ensures
     r.before.length.ensures r.rule-of.ensures c.text-fits.ensures
 
 pub text-fault-spec : {M : Type 1} → statement M

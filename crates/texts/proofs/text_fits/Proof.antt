@@ -1,6 +1,6 @@
 -- Each rule asks for what its arm tests.
 use borrow.Author.Rules.{rules}
-use Rattle.texts.proofs.Fits.{no-text-by, name_by, float-by, int-by, any-text-by}
+use Rattle.texts.proofs.Fits.{no_text_by, name_by, float_by, int_by, any_text_by}
 use Rattle.texts.proofs.text_fits.Statement.{statement}
 use Rattle.texts.proofs.text_fits.Tie as tie
 
@@ -50,7 +50,7 @@ is-utf8-requires : tie.Need-is-utf8-requires
 is-utf8-requires c κs = search rules
 
 returns : tie.Need-returns
-returns c = rw (c.enum_told.given.1, no-text-by)
+returns c = rw (c.enum_told.given.1, no_text_by)
 
 returns-2 : tie.Need-returns-2
 returns-2 c = rw (c.before.enum-told2.given.1, name_by) c.is_name.ensures
@@ -65,13 +65,13 @@ returns-5 : tie.Need-returns-5
 returns-5 c = rw c.before.enum-told5.given.1 c.is-enum-name.ensures
 
 returns-6 : tie.Need-returns-6
-returns-6 c = rw (c.before.enum-told6.given.1, float-by) c.is-float.ensures
+returns-6 c = rw (c.before.enum-told6.given.1, float_by) c.is-float.ensures
 
 returns-7 : tie.Need-returns-7
-returns-7 c = rw (c.before.enum-told7.given.1, int-by) c.is-int.ensures
+returns-7 c = rw (c.before.enum-told7.given.1, int_by) c.is-int.ensures
 
 returns-8 : tie.Need-returns-8
-returns-8 c = rw (c.before.enum-told8.given.1, any-text-by) c.is-utf8.ensures
+returns-8 c = rw (c.before.enum-told8.given.1, any_text_by) c.is-utf8.ensures
 
 pub text-fits-spec : {M : Type 1} → statement M
 text-fits-spec =

@@ -1,7 +1,7 @@
 -- `types::serialize_type` meets its contract: the parts of the two rules, one after the other; the depth falls from a list to its type.
-use Rattle.types.specs.TypeJob.{node_of, text_of, some-depth, is-list, inner-range, inner-there, inner-job, named-type, list-type}
-use Rattle.meaning.specs.Settings.{defaultSettings}
-use Rattle.pen.specs.Wrote.{wrote-length}
+use Rattle.types.specs.TypeJob.{node_of, text_of, some_depth, is_list, inner_range, inner_there, inner_job, named_type_lem, list_type_lem}
+use Rattle.meaning.specs.Settings.{default_settings}
+use Rattle.pen.specs.Wrote.{wrote_length}
 use Rattle.meaning.specs.Rules.{token}
 use native.Mathlib.Omega.{arith}
 use Prim.Native.Nat.{◌+◌, ◌-◌}
@@ -58,10 +58,10 @@ serialize-type-if-one-requires : (t : ℕ) → serialize-type-lts.Need-if-one-re
 serialize-type-if-one-requires t c κs = node_of c.before.before.before.before.before.before.before.before.before.before.before.before.requires.1
 
 serialize-type-same-length : (t : ℕ) → serialize-type-lts.Need-same-length (claims-serialize-type t) (serialize-type-at t) serialize-type.Post
-serialize-type-same-length t c = wrote-length (named-type defaultSettings refl (sym c.before.before.before.before.before.before.before.before.before.before.before.kind.ensures.is ∙ c.before.before.before.before.before.before.before.before.before.before.if1.true) c.before.before.before.before.before.before.before.before.name.ensures (c.before.before.before.if-one.ensures _ defaultSettings _ (token "!") refl refl))
+serialize-type-same-length t c = wrote_length (named_type_lem default_settings refl (sym c.before.before.before.before.before.before.before.before.before.before.before.kind.ensures.is ∙ c.before.before.before.before.before.before.before.before.before.before.if1.true) c.before.before.before.before.before.before.before.before.name.ensures (c.before.before.before.if-one.ensures _ default_settings _ (token "!") refl refl))
 
 serialize-type-returns : (t : ℕ) → serialize-type-lts.Need-returns (claims-serialize-type t) (serialize-type-at t) serialize-type.Post
-serialize-type-returns t c = λ s. named-type s refl (sym c.before.before.before.before.before.before.before.before.before.before.before.kind.ensures.is ∙ c.before.before.before.before.before.before.before.before.before.before.if1.true) c.before.before.before.before.before.before.before.before.name.ensures (c.before.before.before.if-one.ensures _ s _ (token "!") refl refl)
+serialize-type-returns t c = λ s. named_type_lem s refl (sym c.before.before.before.before.before.before.before.before.before.before.before.kind.ensures.is ∙ c.before.before.before.before.before.before.before.before.before.before.if1.true) c.before.before.before.before.before.before.before.before.name.ensures (c.before.before.before.if-one.ensures _ s _ (token "!") refl refl)
 
 serialize-type-slice-aggregate-token : (t : ℕ) → serialize-type-lts.Need-slice-aggregate-token (claims-serialize-type t) (serialize-type-at t) serialize-type.Post
 serialize-type-slice-aggregate-token t c = refl
@@ -70,13 +70,13 @@ serialize-type-token-requires : (t : ℕ) → serialize-type-lts.Need-token-requ
 serialize-type-token-requires t c κs = tt
 
 serialize-type-sub-serialize-type : (t : ℕ) → serialize-type-lts.Need-overflow-sub-serialize-type (claims-serialize-type t) (serialize-type-at t) serialize-type.Post
-serialize-type-sub-serialize-type t c = some-depth c.before.before.before.before.before.before.before.before.before.before.before.requires.1
+serialize-type-sub-serialize-type t c = some_depth c.before.before.before.before.before.before.before.before.before.before.before.requires.1
 
 serialize-type-serialize-type-requires : (t : ℕ) → serialize-type-lts.Need-serialize-type-requires (claims-serialize-type t) (serialize-type-at t) serialize-type.Post
-serialize-type-serialize-type-requires t c κs = (omega (arith, c.before.before.before.before.before.before.before.before.before.before.before.before.requires.0, some-depth c.before.before.before.before.before.before.before.before.before.before.before.before.requires.1), inner-job c.before.before.before.before.before.before.before.before.before.before.before.before.requires.1 (is-list c.before.before.before.before.before.before.before.before.before.before.before.before.requires.1 c.before.before.before.before.before.before.before.kind.ensures.is c.before.before.before.before.before.before.if1.false))
+serialize-type-serialize-type-requires t c κs = (omega (arith, c.before.before.before.before.before.before.before.before.before.before.before.before.requires.0, some_depth c.before.before.before.before.before.before.before.before.before.before.before.before.requires.1), inner_job c.before.before.before.before.before.before.before.before.before.before.before.before.requires.1 (is_list c.before.before.before.before.before.before.before.before.before.before.before.before.requires.1 c.before.before.before.before.before.before.before.kind.ensures.is c.before.before.before.before.before.before.if1.false))
 
 serialize-type-past-requires : (t : ℕ) → serialize-type-lts.Need-past-requires (claims-serialize-type t) (serialize-type-at t) serialize-type.Post
-serialize-type-past-requires t c κs = node_of (inner-job c.before.before.before.before.before.before.before.before.before.before.before.before.before.before.before.requires.1 (is-list c.before.before.before.before.before.before.before.before.before.before.before.before.before.before.before.requires.1 c.before.before.before.before.before.before.before.before.before.before.kind.ensures.is c.before.before.before.before.before.before.before.before.before.if1.false))
+serialize-type-past-requires t c κs = node_of (inner_job c.before.before.before.before.before.before.before.before.before.before.before.before.before.before.before.requires.1 (is_list c.before.before.before.before.before.before.before.before.before.before.before.before.before.before.before.requires.1 c.before.before.before.before.before.before.before.before.before.before.kind.ensures.is c.before.before.before.before.before.before.before.before.before.if1.false))
 
 serialize-type-slice-aggregate-token-2 : (t : ℕ) → serialize-type-lts.Need-slice-aggregate-token-2 (claims-serialize-type t) (serialize-type-at t) serialize-type.Post
 serialize-type-slice-aggregate-token-2 t c = refl
@@ -105,10 +105,10 @@ serialize-type-if-one-requires-2 : (t : ℕ) → serialize-type-lts.Need-if-one-
 serialize-type-if-one-requires-2 t c κs = node_of c.before.before.before.before.before.before.before.before.before.before.before.before.before.before.before.before.before.before.before.before.before.before.before.requires.1
 
 serialize-type-same-length-2 : (t : ℕ) → serialize-type-lts.Need-same-length-2 (claims-serialize-type t) (serialize-type-at t) serialize-type.Post
-serialize-type-same-length-2 t c = let k = is-list c.before.before.before.before.before.before.before.before.before.before.before.before.before.before.before.before.before.before.before.before.before.before.before.before.before.before.before.requires.1 c.before.before.before.before.before.before.before.before.before.before.before.before.before.before.before.before.before.before.before.before.before.before.kind.ensures.is c.before.before.before.before.before.before.before.before.before.before.before.before.before.before.before.before.before.before.before.before.before.if1.false in wrote-length (list-type defaultSettings refl (inner-range c.before.before.before.before.before.before.before.before.before.before.before.before.before.before.before.before.before.before.before.before.before.before.before.before.before.before.before.requires.1 k) (inner-there c.before.before.before.before.before.before.before.before.before.before.before.before.before.before.before.before.before.before.before.before.before.before.before.before.before.before.before.requires.1 k) k c.before.before.before.before.before.before.before.before.before.before.before.before.before.before.before.before.before.before.token.ensures (c.before.before.before.before.before.before.before.before.before.before.before.before.before.before.serialize-type.ensures defaultSettings) refl c.before.before.before.before.before.before.before.before.before.before.before.past.ensures c.before.before.before.before.before.before.before.before.token2.ensures (c.before.before.before.if-one2.ensures _ defaultSettings _ (token "!") refl refl))
+serialize-type-same-length-2 t c = let k = is_list c.before.before.before.before.before.before.before.before.before.before.before.before.before.before.before.before.before.before.before.before.before.before.before.before.before.before.before.requires.1 c.before.before.before.before.before.before.before.before.before.before.before.before.before.before.before.before.before.before.before.before.before.before.kind.ensures.is c.before.before.before.before.before.before.before.before.before.before.before.before.before.before.before.before.before.before.before.before.before.if1.false in wrote_length (list_type_lem default_settings refl (inner_range c.before.before.before.before.before.before.before.before.before.before.before.before.before.before.before.before.before.before.before.before.before.before.before.before.before.before.before.requires.1 k) (inner_there c.before.before.before.before.before.before.before.before.before.before.before.before.before.before.before.before.before.before.before.before.before.before.before.before.before.before.before.requires.1 k) k c.before.before.before.before.before.before.before.before.before.before.before.before.before.before.before.before.before.before.token.ensures (c.before.before.before.before.before.before.before.before.before.before.before.before.before.before.serialize-type.ensures default_settings) refl c.before.before.before.before.before.before.before.before.before.before.before.past.ensures c.before.before.before.before.before.before.before.before.token2.ensures (c.before.before.before.if-one2.ensures _ default_settings _ (token "!") refl refl))
 
 serialize-type-returns-2 : (t : ℕ) → serialize-type-lts.Need-returns-2 (claims-serialize-type t) (serialize-type-at t) serialize-type.Post
-serialize-type-returns-2 t c = let k = is-list c.before.before.before.before.before.before.before.before.before.before.before.before.before.before.before.before.before.before.before.before.before.before.before.before.before.before.before.requires.1 c.before.before.before.before.before.before.before.before.before.before.before.before.before.before.before.before.before.before.before.before.before.before.kind.ensures.is c.before.before.before.before.before.before.before.before.before.before.before.before.before.before.before.before.before.before.before.before.before.if1.false in λ s. list-type s refl (inner-range c.before.before.before.before.before.before.before.before.before.before.before.before.before.before.before.before.before.before.before.before.before.before.before.before.before.before.before.requires.1 k) (inner-there c.before.before.before.before.before.before.before.before.before.before.before.before.before.before.before.before.before.before.before.before.before.before.before.before.before.before.before.requires.1 k) k c.before.before.before.before.before.before.before.before.before.before.before.before.before.before.before.before.before.before.token.ensures (c.before.before.before.before.before.before.before.before.before.before.before.before.before.before.serialize-type.ensures s) refl c.before.before.before.before.before.before.before.before.before.before.before.past.ensures c.before.before.before.before.before.before.before.before.token2.ensures (c.before.before.before.if-one2.ensures _ s _ (token "!") refl refl)
+serialize-type-returns-2 t c = let k = is_list c.before.before.before.before.before.before.before.before.before.before.before.before.before.before.before.before.before.before.before.before.before.before.before.before.before.before.before.requires.1 c.before.before.before.before.before.before.before.before.before.before.before.before.before.before.before.before.before.before.before.before.before.before.kind.ensures.is c.before.before.before.before.before.before.before.before.before.before.before.before.before.before.before.before.before.before.before.before.before.if1.false in λ s. list_type_lem s refl (inner_range c.before.before.before.before.before.before.before.before.before.before.before.before.before.before.before.before.before.before.before.before.before.before.before.before.before.before.before.requires.1 k) (inner_there c.before.before.before.before.before.before.before.before.before.before.before.before.before.before.before.before.before.before.before.before.before.before.before.before.before.before.before.requires.1 k) k c.before.before.before.before.before.before.before.before.before.before.before.before.before.before.before.before.before.before.token.ensures (c.before.before.before.before.before.before.before.before.before.before.before.before.before.before.serialize-type.ensures s) refl c.before.before.before.before.before.before.before.before.before.before.before.past.ensures c.before.before.before.before.before.before.before.before.token2.ensures (c.before.before.before.if-one2.ensures _ s _ (token "!") refl refl)
 
 pub +serialize-type-spec : {M : Type 1} → statement M
 +serialize-type-spec = close μ-serialize-type λ t. serialize-type-lts.spec (claims-serialize-type t)

@@ -2,14 +2,14 @@
 use mathlib.Core.Path.{◌≡◌, sym, ◌∙◌}
 use lib.ListN.{drop}
 use borrow.Author.Rules.{rules}
-use borrow.Author.Tests.{not-true, not-false}
-use Rattle.vector_lines.specs.Words.{areWords}
-use Rattle.vector_lines.proofs.Commas.{words-bad, words_more, words-end}
+use borrow.Author.Tests.{not_true, not_false}
+use Rattle.vector_lines.specs.Words.{are_words}
+use Rattle.vector_lines.proofs.Commas.{words_bad, words_more, words_end}
 use Rattle.vector_lines.proofs.are_words.Statement.{statement}
 use Rattle.vector_lines.proofs.are_words.Tie as tie
 
 abbrev invariant-loop : tie.invariant-loop
-invariant-loop s n at₀ left₀ at left = areWords left (drop at s) ≡ areWords n s
+invariant-loop s n at₀ left₀ at left = are_words left (drop at s) ≡ are_words n s
 
 abbrev decreases-loop : tie.decreases-loop
 decreases-loop s n at₀ left₀ at left = left
@@ -32,8 +32,8 @@ returns c =
     let b = a.before.before in
     let l = b.before.loop in
     let s = b.before.before.before.args.s.now in
-    let bad = not-true _ c.if1.true in
-    sym (words-bad s l.at _ b.loop-test.true a.before.part.ensures a.is_IsWord.ensures bad) ∙ l.invariant
+    let bad = not_true _ c.if1.true in
+    sym (words_bad s l.at _ b.loop-test.true a.before.part.ensures a.is_IsWord.ensures bad) ∙ l.invariant
 
 past-requires : tie.Need-past-requires invariant-loop decreases-loop
 past-requires c κs = search rules
@@ -45,12 +45,12 @@ loop-again : tie.Need-loop-preserved invariant-loop decreases-loop
 loop-again c =
     let a = c.before.before in
     let b = a.before.before in
-    let good = not-false _ c.before.if1.false in
+    let good = not_false _ c.before.if1.false in
     words_more _ _ _ _ b.loop-test.true a.before.part.ensures a.is_IsWord.ensures good c.past.ensures
     ∙ b.before.loop.invariant
 
 returns-2 : tie.Need-returns-2 invariant-loop decreases-loop
-returns-2 c = sym (words-end _ _ c.loop-test.false) ∙ c.before.loop.invariant
+returns-2 c = sym (words_end _ _ c.loop-test.false) ∙ c.before.loop.invariant
 
 pub are-words-spec : {M : Type 1} → statement M
 are-words-spec =

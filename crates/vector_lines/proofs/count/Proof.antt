@@ -5,7 +5,7 @@ use native.Mathlib.Omega.{arith}
 use lib.ListN.{length, drop}
 use borrow.Author.Rules.{rules}
 use Rattle.vector_lines.specs.Parts.{count_of}
-use Rattle.vector_lines.proofs.Parts.{count-one, count_none, count-end}
+use Rattle.vector_lines.proofs.Parts.{count_one, count_none, count_end}
 use Rattle.vector_lines.proofs.count.Statement.{statement}
 use Rattle.vector_lines.proofs.count.Tie as tie
 
@@ -34,7 +34,7 @@ loop-again : tie.Need-loop-preserved invariant-loop decreases-loop
 loop-again c =
     let b = c.before.before.before in
     let a = b.before.args in
-    omega (arith, count-one a.s.now b.loop.i a.byte (omega arith) c.if1.true)
+    omega (arith, count_one a.s.now b.loop.i a.byte (omega arith) c.if1.true)
 
 loop-less-2 : tie.Need-loop-smaller-2 invariant-loop decreases-loop
 loop-less-2 c = search rules
@@ -48,7 +48,7 @@ loop-again-2 c =
 returns : tie.Need-returns invariant-loop decreases-loop
 returns c =
     let a = c.before.before.args in
-    omega (arith, count-end a.s.now c.before.loop.i a.byte (omega arith))
+    omega (arith, count_end a.s.now c.before.loop.i a.byte (omega arith))
 
 pub count_spec : {M : Type 1} → statement M
 count_spec =

@@ -4,22 +4,22 @@ use Prim.Native.Nat.{◌-◌, ◌^◌, ◌<◌}
 use native.Mathlib.Omega.{arith}
 use lib.ListN.{length, drop}
 use borrow.Author.Rules.{rules}
-use Rattle.vector_lines.specs.Numbers.{numberFrom, number_of}
-use Rattle.vector_lines.proofs.Hex.{number_more, number-bad, number-large, number-end, number-empty, number-begins}
+use Rattle.vector_lines.specs.Numbers.{number_from, number_of}
+use Rattle.vector_lines.proofs.Hex.{number_more, number_bad, number_large, number_end, number_empty, number_begins}
 use Rattle.vector_lines.proofs.decimal.Statement.{statement}
 use Rattle.vector_lines.proofs.decimal.Tie as tie
 
 abbrev invariant-loop : tie.invariant-loop
-invariant-loop s n₀ i₀ n i = (n < 10 ^ 18) × (numberFrom n (drop i s) ≡ number_of s)
+invariant-loop s n₀ i₀ n i = (n < 10 ^ 18) × (number_from n (drop i s) ≡ number_of s)
 
 abbrev decreases-loop : tie.decreases-loop
 decreases-loop s n₀ i₀ n i = length s - i
 
 returns : tie.Need-returns invariant-loop decreases-loop
-returns c = sym (number-empty _ c.if1.true)
+returns c = sym (number_empty _ c.if1.true)
 
 loop-holds : tie.Need-loop-init invariant-loop decreases-loop
-loop-holds c = (omega arith, sym (number-begins _ c.if1.false))
+loop-holds c = (omega arith, sym (number_begins _ c.if1.false))
 
 shared-slice-read-digit : tie.Need-shared-slice-read-digit invariant-loop decreases-loop
 shared-slice-read-digit c = search rules
@@ -37,13 +37,13 @@ returns-2 : tie.Need-returns-2 invariant-loop decreases-loop
 returns-2 c =
     let b = c.before.before.before.before in
     let d = c.before.wide.ensures ∙ c.before.before.digit.ensures in
-    sym (number-bad _ _ _ _ b.loop-test.true d c.if2.true) ∙ b.before.loop.invariant.1
+    sym (number_bad _ _ _ _ b.loop-test.true d c.if2.true) ∙ b.before.loop.invariant.1
 
 returns-3 : tie.Need-returns-3 invariant-loop decreases-loop
 returns-3 c =
     let b = c.before.before.before.before.before in
     let d = c.before.before.wide.ensures ∙ c.before.before.before.digit.ensures in
-    sym (number-large _ _ _ _ b.loop-test.true d c.before.if2.false c.if3.true) ∙ b.before.loop.invariant.1
+    sym (number_large _ _ _ _ b.loop-test.true d c.before.if2.false c.if3.true) ∙ b.before.loop.invariant.1
 
 mul-n : tie.Need-overflow-mul-n invariant-loop decreases-loop
 mul-n c = search rules
@@ -61,7 +61,7 @@ loop-again c =
     (omega arith, number_more _ _ _ _ b.loop-test.true d c.before.if2.false c.if3.false ∙ b.before.loop.invariant.1)
 
 returns-4 : tie.Need-returns-4 invariant-loop decreases-loop
-returns-4 c = sym (number-end _ _ _ c.loop-test.false) ∙ c.before.loop.invariant.1
+returns-4 c = sym (number_end _ _ _ c.loop-test.false) ∙ c.before.loop.invariant.1
 
 pub decimal-spec : {M : Type 1} → statement M
 decimal-spec =

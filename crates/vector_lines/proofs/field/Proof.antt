@@ -3,7 +3,7 @@ use mathlib.Core.Path.{◌≡◌, sym, ◌∙◌}
 use lib.ListN.{drop}
 use borrow.Author.Rules.{rules}
 use Rattle.vector_lines.specs.Parts.{field_of}
-use Rattle.vector_lines.proofs.Parts.{field_past, field-none}
+use Rattle.vector_lines.proofs.Parts.{field_past, field_none}
 use Rattle.vector_lines.proofs.field.Statement.{statement}
 use Rattle.vector_lines.proofs.field.Tie as tie
 
@@ -32,7 +32,7 @@ part-requires : tie.Need-part-requires invariant-loop decreases-loop
 part-requires c κs = search rules
 
 returns : tie.Need-returns invariant-loop decreases-loop
-returns c = c.part.ensures ∙ sym (field-none _ _ c.before.loop-test.false) ∙ c.before.before.loop.invariant
+returns c = c.part.ensures ∙ sym (field_none _ _ c.before.loop-test.false) ∙ c.before.before.loop.invariant
 
 pub field-spec : {M : Type 1} → statement M
 field-spec =

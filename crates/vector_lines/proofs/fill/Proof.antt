@@ -6,7 +6,7 @@ use native.Mathlib.Omega.{arith}
 use lib.ListN.{length, drop, replicate, set}
 use borrow.Author.Rules.{rules}
 use borrow.Author.Fill.{fill_none, fill_more}
-use Rattle.vector_lines.proofs.Throughout.{filled-whole}
+use Rattle.vector_lines.proofs.Throughout.{filled_whole}
 use Rattle.vector_lines.proofs.fill.Statement.{statement}
 use Rattle.vector_lines.proofs.fill.Tie as tie
 
@@ -42,7 +42,7 @@ returns : tie.Need-returns invariant-loop decreases-loop
 returns c =
     let b = c.before in
     let h : b.loop.i ≡ length b.before.args.out.now = omega arith in
-    b.loop.invariant.2 ∙ filled-whole _ _ _ h
+    b.loop.invariant.2 ∙ filled_whole _ _ _ h
 
 pub fill_spec : {M : Type 1} → statement M
 fill_spec =

@@ -3,13 +3,13 @@ use mathlib.Core.Path.{◌≡◌, sym, ◌∙◌}
 use Prim.Native.Nat.{◌-◌}
 use lib.ListN.{length, drop}
 use borrow.Author.Rules.{rules}
-use Rattle.vector_lines.specs.Throughout.{allAre}
-use Rattle.vector_lines.proofs.Throughout.{all_more, all-other, all_end}
+use Rattle.vector_lines.specs.Throughout.{all_are}
+use Rattle.vector_lines.proofs.Throughout.{all_more, all_other, all_end}
 use Rattle.vector_lines.proofs.is_filled.Statement.{statement}
 use Rattle.vector_lines.proofs.is_filled.Tie as tie
 
 abbrev invariant-loop : tie.invariant-loop
-invariant-loop s byte i₀ i = allAre byte (drop i s) ≡ allAre byte s
+invariant-loop s byte i₀ i = all_are byte (drop i s) ≡ all_are byte s
 
 abbrev decreases-loop : tie.decreases-loop
 decreases-loop s byte i₀ i = length s - i
@@ -21,7 +21,7 @@ shared-slice-read-if1 : tie.Need-shared-slice-read-if1 invariant-loop decreases-
 shared-slice-read-if1 c = search rules
 
 returns : tie.Need-returns invariant-loop decreases-loop
-returns c = sym (all-other _ _ _ c.before.before.loop-test.true c.if1.true) ∙ c.before.before.before.loop.invariant
+returns c = sym (all_other _ _ _ c.before.before.loop-test.true c.if1.true) ∙ c.before.before.before.loop.invariant
 
 add-i : tie.Need-overflow-add-i invariant-loop decreases-loop
 add-i c = search rules

@@ -5,7 +5,7 @@ use native.Mathlib.Omega.{arith}
 use lib.ListN.{length, drop}
 use borrow.Author.Rules.{rules}
 use Rattle.vector_lines.specs.Parts.{before}
-use Rattle.vector_lines.proofs.Parts.{before_here, before_more, before-end}
+use Rattle.vector_lines.proofs.Parts.{before_here, before_more, before_end}
 use Rattle.vector_lines.proofs.place.Statement.{statement}
 use Rattle.vector_lines.proofs.place.Tie as tie
 
@@ -42,7 +42,7 @@ loop-again c =
 returns-2 : tie.Need-returns-2 invariant-loop decreases-loop
 returns-2 c =
     let a = c.before.before.args in
-    omega (arith, before-end a.s.now c.before.loop.i a.stop (omega arith))
+    omega (arith, before_end a.s.now c.before.loop.i a.stop (omega arith))
 
 pub place-spec : {M : Type 1} → statement M
 place-spec =

@@ -6,7 +6,7 @@ use lib.ListN.{length, drop}
 use lib.Seq.{sets}
 use borrow.Author.Rules.{rules}
 use Rattle.vector_lines.specs.Hex.{pairs}
-use Rattle.vector_lines.proofs.Hex.{pairs-length, store-more, store-end, store-whole}
+use Rattle.vector_lines.proofs.Hex.{pairs_length, store_more, store_end, store_whole}
 use Rattle.vector_lines.proofs.store_pairs.Statement.{statement}
 use Rattle.vector_lines.proofs.store_pairs.Tie as tie
 
@@ -20,10 +20,10 @@ loop-holds : tie.Need-loop-init invariant-loop decreases-loop
 loop-holds c = (omega arith, refl, refl)
 
 pair-requires : tie.Need-pair-requires invariant-loop decreases-loop
-pair-requires c κs = (c.before.before.before.before.requires.0, omega (arith, pairs-length c.before.before.before.before.args.s.now))
+pair-requires c κs = (c.before.before.before.before.requires.0, omega (arith, pairs_length c.before.before.before.before.args.s.now))
 
 slice-write-out : tie.Need-slice-write-out invariant-loop decreases-loop
-slice-write-out c = omega (arith, pairs-length c.before.before.before.before.before.args.s.now)
+slice-write-out c = omega (arith, pairs_length c.before.before.before.before.before.args.s.now)
 
 add-i : tie.Need-overflow-add-i invariant-loop decreases-loop
 add-i c = search rules
@@ -35,8 +35,8 @@ loop-again : tie.Need-loop-preserved invariant-loop decreases-loop
 loop-again c =
     let b = c.before.before in
     let p = pairs c.before.before.before.before.before.args.s.now in
-    let h : b.loop.i < length p = omega (arith, pairs-length c.before.before.before.before.before.args.s.now) in
-    (omega arith, search rules, store-more _ p _ _ h c.pair.ensures ∙ b.loop.invariant.2)
+    let h : b.loop.i < length p = omega (arith, pairs_length c.before.before.before.before.before.args.s.now) in
+    (omega arith, search rules, store_more _ p _ _ h c.pair.ensures ∙ b.loop.invariant.2)
 
 same_length : tie.Need-same-length invariant-loop decreases-loop
 same_length c = search rules
@@ -46,8 +46,8 @@ returns c =
     let b = c.before.loop in
     let a = c.before.before.before.before in
     let p = pairs a.args.s.now in
-    let h : length p ≤ b.i = omega (arith, pairs-length a.args.s.now) in
-    sym (store-end _ p _ h) ∙ b.invariant.2 ∙ store-whole _ p a.requires.1
+    let h : length p ≤ b.i = omega (arith, pairs_length a.args.s.now) in
+    sym (store_end _ p _ h) ∙ b.invariant.2 ∙ store_whole _ p a.requires.1
 
 pub store-pairs-spec : {M : Type 1} → statement M
 store-pairs-spec =

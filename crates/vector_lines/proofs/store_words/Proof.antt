@@ -6,8 +6,8 @@ use native.Mathlib.Omega.{arith}
 use lib.ListN.{length, drop}
 use lib.Seq.{sets}
 use borrow.Author.Rules.{rules}
-use Rattle.vector_lines.specs.Words.{word_of, areWords, words_of}
-use Rattle.vector_lines.proofs.Commas.{word-here, words-after, store_word, store-none, store-all}
+use Rattle.vector_lines.specs.Words.{word_of, are_words, words_of}
+use Rattle.vector_lines.proofs.Commas.{word_here, words_after, store_word, store_none, store_all}
 use Rattle.vector_lines.proofs.store_words.Statement.{statement}
 use Rattle.vector_lines.proofs.store_words.Tie as tie
 
@@ -15,7 +15,7 @@ abbrev invariant-loop : tie.invariant-loop
 invariant-loop s n out₀ at₀ i₀ out at i =
     (i ≤ n)
     × (length out ≡ length out₀)
-    × (areWords (n - i) (drop at s) ≡ true)
+    × (are_words (n - i) (drop at s) ≡ true)
     × (sets out i (words_of (n - i) (drop at s)) ≡ sets out₀ 0 (words_of n s))
 
 abbrev decreases-loop : tie.decreases-loop
@@ -35,7 +35,7 @@ word-requires c κs =
     let b = c.before in
     let l = b.before in
     let s = l.before.before.before.args.s.now in
-    rw c.part.ensures (word-here s l.loop.at _ _ b.loop-test.true l.loop.invariant.2)
+    rw c.part.ensures (word_here s l.loop.at _ _ b.loop-test.true l.loop.invariant.2)
 
 mul-out : tie.Need-overflow-mul-out invariant-loop decreases-loop
 mul-out c = search rules
@@ -59,7 +59,7 @@ loop-again c =
     let h = b.loop-test.true in
     let past = c.past.ensures in
     let value = c.before.word.ensures ∙ ap word_of c.before.before.part.ensures in
-    (omega arith, search rules, words-after _ _ _ _ _ h l.invariant.2 past, store_word _ _ _ _ _ _ _ h value past ∙ l.invariant.3)
+    (omega arith, search rules, words_after _ _ _ _ _ h l.invariant.2 past, store_word _ _ _ _ _ _ _ h value past ∙ l.invariant.3)
 
 same_length : tie.Need-same-length invariant-loop decreases-loop
 same_length c = search rules
@@ -68,7 +68,7 @@ returns : tie.Need-returns invariant-loop decreases-loop
 returns c =
     let b = c.before.loop in
     let a = c.before.before.before.before in
-    sym (store-none _ a.args.s.now b.at _ _ c.loop-test.false) ∙ b.invariant.3 ∙ store-all _ _ _ a.requires.1
+    sym (store_none _ a.args.s.now b.at _ _ c.loop-test.false) ∙ b.invariant.3 ∙ store_all _ _ _ a.requires.1
 
 pub store-words-spec : {M : Type 1} → statement M
 store-words-spec =

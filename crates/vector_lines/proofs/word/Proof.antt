@@ -4,7 +4,7 @@ use Prim.Native.Nat.{◌^◌}
 use native.Mathlib.Omega.{arith}
 use borrow.Author.Rules.{rules}
 use borrow.Author.Tests.{ltb-true}
-use Rattle.vector_lines.proofs.Commas.{is-small, is_number, bad-nothing}
+use Rattle.vector_lines.proofs.Commas.{is_small_lem, is_number, bad_nothing}
 use Rattle.vector_lines.proofs.word.Statement.{statement}
 use Rattle.vector_lines.proofs.word.Tie as tie
 
@@ -18,7 +18,7 @@ cast-result : tie.Need-overflow-cast-result
 cast-result c =
     let b = c.before.before.before in
     let a = b.before.before in
-    let small = is-small a.args.s.now b.decimal.ensures c.before.n.given.1 in
+    let small = is_small_lem a.args.s.now b.decimal.ensures c.before.n.given.1 in
     omega (arith, ltb-true c.before.n.given.0.0 (2 ^ 32) (small ∙ a.requires))
 
 enum_told : tie.Need-enum-told
@@ -32,7 +32,7 @@ returns c =
 returns-2 : tie.Need-returns-2
 returns-2 c =
     let b = c.before.before in
-    bad-nothing b.before.before.args.s.now b.decimal.ensures c.enum_told.given.1
+    bad_nothing b.before.before.args.s.now b.decimal.ensures c.enum_told.given.1
 
 pub word-spec : {M : Type 1} → statement M
 word-spec =
