@@ -1,5 +1,6 @@
 // The archive exporter: a table file comes on standard input, its archive text goes to standard output. A refusal writes nothing there, and
 // its number and place to standard error.
+#![tactic(auto)]
 use libc::{STDERR_FILENO, STDIN_FILENO, STDOUT_FILENO};
 
 fn refused(number: u64, place: u64) {

@@ -1,1 +1,2 @@
 // Laws that every crate may cite; no code.
+#![tactic(auto)]

@@ -1,4 +1,5 @@
 // A small digest of a text, for the digest job.
+#![tactic(auto)]
 ghost use Rattle.std.specs.Prelude.{◌≡◌};
 ghost use Rattle.digest.specs.Digest.{digest};
 

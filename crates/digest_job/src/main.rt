@@ -1,5 +1,6 @@
 // The digest job: a table file comes on standard input; the digest of its archive text, and how many bytes that has, go to standard output.
 // A refusal writes nothing there, and its number and place to standard error.
+#![tactic(auto)]
 use libc::{STDERR_FILENO, STDIN_FILENO, STDOUT_FILENO};
 
 fn refused(number: u64, place: u64) {

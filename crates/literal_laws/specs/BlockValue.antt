@@ -126,9 +126,13 @@ least_is_zero (l ∷ ls) h z = rw h (go (common_indent ls) (rw h at z))
     go none z = ap some (eqb-true (indent l) 0 z)
     go (some m) z = ap some (eqb-true (min (indent l) m) 0 z)
 
+empty_front_dropped : (ls : List (List ℕ)) → drop_blank_front ([] ∷ ls) ≡ drop_blank_front ls
+unfolding drop_blank_front blank
+empty_front_dropped ls = refl
+
 several_lines_trimmed : (ind v : List ℕ) → blank ind ≡ true → Rule v
     → joined (drop_blank_end (drop_blank_front (dedented ([] ∷ (map (indented ind) (lines v) ++ (ind ∷ [])))))) ≡ v
-unfolding dedented drop_blank_front
+unfolding dedented
 several_lines_trimmed ind v bl r =
     let z : more (length ind) (some 0) ≡ some (length ind) = ap some (omega arith) in
     rw (
@@ -136,6 +140,7 @@ several_lines_trimmed ind v bl r =
       least_is_zero (lines v) r.first r.least,
       z,
       indentation_removed ind bl (lines v),
+      empty_front_dropped (lines v ++ ([] ∷ [])),
       front_kept (lines v ++ ([] ∷ [])) (first_of_appended (lines v) ([] ∷ []) r.first),
       empty_end_dropped (lines v),
       end_kept (lines v) r.last,

@@ -1,4 +1,5 @@
 // The numbers and answers that every crate shares. What they mean is in specs/.
+#![tactic(auto)]
 
 // The number of a node of the table.
 #[derive(Drop)]

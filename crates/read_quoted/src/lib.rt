@@ -1,4 +1,5 @@
 // Reading one quoted string literal: bytes that stand for themselves are copied a run at a time, and each escape is taken apart.
+#![tactic(auto)]
 ghost use Rattle.std.specs.Prelude.{◌≡◌, ◌+◌, ◌<◌, ◌≤◌, length, drop};
 ghost use Rattle.meaning.specs.Utf8.{encoded};
 ghost use Rattle.meaning.specs.Reading.{hex_value, unicode_escape, letter_byte, escape as escape_of, quoted_front, characters, as_quoted};

@@ -1,5 +1,6 @@
 // Replays the vectors of documents, which come on standard input: each table is printed and compared with the text that stands
 // beside it. It writes what was counted, and the first line that fails.
+#![tactic(auto)]
 ghost use Rattle.std.specs.Prelude.{◌≡◌, min};
 
 use libc::{STDIN_FILENO, STDOUT_FILENO};

@@ -1,1 +1,2 @@
 // Laws; no code.
+#![tactic(auto)]

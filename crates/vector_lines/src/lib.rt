@@ -1,5 +1,6 @@
 // Lines of stored vectors: fields apart by one space, numbers in decimal, words by commas, bytes in hex. No public function requires
 // anything; what is not of this shape is refused.
+#![tactic(auto)]
 ghost use Rattle.std.specs.Prelude.{◌≡◌, true, ◌++◌, ◌+◌, ◌≤◌, ◌<◌, length, get_or, take, drop, replicate};
 ghost use Rattle.vector_lines.specs.Parts.{before, field_of, count_of, Past};
 ghost use Rattle.vector_lines.specs.Hex.{digit_of, paired, pairs, is_none, decoded};
