@@ -1,7 +1,7 @@
 -- Places found in a value: how far it is to the first place where a test of what follows holds, and what a walk towards it keeps.
 use Rattle.std.specs.Prelude.{◌≡◌, refl, Bool, true, false, not, ◌||◌, List, [], ◌∷◌, ℕ, zero, suc, ◌+◌, ◌-◌, ◌≤◌, ◌<◌, eqb, length, take, drop, get_or}
 use Rattle.std.proofs.Common.{sym, ◌∙◌, arith, length-drop, drop_of_length-le, drop-drop}
-use Rattle.std.proofs.Math.Bool.{or_false, or_assoc}
+use Rattle.std.proofs.Math.Bool.{or-false, or_assoc}
 use Rattle.base.specs.Bools.{clash, or_left_false, or_right_false}
 use Rattle.meaning.specs.Ascii.{if◌then◌else◌, line_feed, carriage_return}
 use Rattle.meaning.specs.Settings.{is_blank}
@@ -198,4 +198,4 @@ seen_one {c} {v} {i} {seen} s h =
 
 pub seen_all : {c : ℕ} {v : List ℕ} {i : ℕ} {seen : Bool} → Seen c v i seen → length v ≤ i → seen ≡ has c v
 unfolding has
-seen_all {c} {v} {i} {seen} s h = sym (or_false seen) ∙ rw (drop_of_length-le v h) at s.all
+seen_all {c} {v} {i} {seen} s h = sym (or-false seen) ∙ rw (drop_of_length-le v h) at s.all

@@ -3,7 +3,7 @@
 use Rattle.std.specs.Prelude.{◌≡◌, Bool, ◌&&◌, ◌||◌, List, [], ◌∷◌, ℕ, zero, suc, min, eqb}
 use Rattle.std.proofs.Math.Path.{refl}
 use Rattle.std.proofs.Common.{sym, ◌∙◌, arith, eq-eqb, ne_eqb}
-use Rattle.std.proofs.Math.Bool.{true, false, not, or_false, or_assoc}
+use Rattle.std.proofs.Math.Bool.{true, false, not, or-false, or_assoc}
 use Rattle.std.proofs.Math.Option.{Option, none, some}
 use Rattle.base.specs.Bools.{clash, and_false}
 use Rattle.meaning.specs.Ascii.{if◌then◌else◌, carriage_return}
@@ -44,7 +44,7 @@ min_zero (suc a) (suc m) =
 
 lesser_zero : (a : ℕ) (k : Option ℕ) → some_zero (lesser a k) ≡ eqb a 0 || some_zero k
 unfolding lesser
-lesser_zero a none = sym (or_false (eqb a 0))
+lesser_zero a none = sym (or-false (eqb a 0))
 lesser_zero a (some m) = min_zero a m
 
 blank_is_indented : (l : List ℕ) → blank l ≡ true → unindented l ≡ false
@@ -113,7 +113,7 @@ module _ (first found : Bool) (v l : List ℕ) where
   pub last_line_remains : lines v ≡ l ∷ [] → has carriage_return v ≡ false
       → remaining first found v ≡ not (blank l) && (found || unindented l)
   unfolding remaining first_line last_line some_unindented
-  last_line_remains e h = rw (e, h, or_false (unindented l)) (go first (blank l) (found || unindented l))
+  last_line_remains e h = rw (e, h, or-false (unindented l)) (go first (blank l) (found || unindented l))
     where
       go : (f b u : Bool) → not (f && b) && (not b && u) ≡ not b && u
       go true true u = refl

@@ -1,7 +1,7 @@
 -- The text of a block string in the order in which it is written, and when it stands on several lines.
 use Rattle.std.specs.Prelude.{◌≡◌, refl, Bool, true, false, ◌||◌, List, [], ◌∷◌, ◌++◌, ℕ, suc, ◌+◌, ◌-◌, ◌≤◌, ◌<◌, eqb, length, take, drop, get_or}
 use Rattle.std.proofs.Common.{◌∙◌, append_assoc, arith, lt-ltb, le-ltb}
-use Rattle.std.proofs.Math.Bool.{or_true}
+use Rattle.std.proofs.Math.Bool.{or-true}
 use Rattle.meaning.specs.Ascii.{if◌then◌else◌, line_feed, quote, backslash, triple_quote}
 use Rattle.meaning.specs.Block.{lines, has, last_byte, multi_line, escaped_line, block_line, block_lines, block_string}
 use Rattle.block.specs.Places.{byte_that, is, First}
@@ -20,7 +20,7 @@ last_byte_at (b ∷ (c ∷ v)) h =
 module _ (v : List ℕ) where
   pub long_is_multi_line : 70 < length v → multi_line v ≡ true
   unfolding multi_line
-  long_is_multi_line h = rw (lt-ltb 70 (length v) h) (or_true (has line_feed v))
+  long_is_multi_line h = rw (lt-ltb 70 (length v) h) (or-true (has line_feed v))
 
   pub line_feed_is_multi_line : has line_feed v ≡ true → multi_line v ≡ true
   unfolding multi_line

@@ -4,7 +4,7 @@ use Rattle.std.specs.Prelude.{◌≡◌, refl, Bool, true, false, not, List, ℕ
 use Rattle.std.proofs.Common.{sym, ◌∙◌, ap}
 use native.Mathlib.Omega.{arith}
 use borrow.Author.Tests.{lt-ltb, le-ltb, ltb-false, eqb-true, eq-eqb, ne_eqb}
-use Rattle.std.proofs.Math.Bool.{or_false}
+use Rattle.std.proofs.Math.Bool.{or-false}
 use Rattle.base.specs.Bools.{or_left_false, or_right_false, not_false}
 use Rattle.meaning.specs.Ascii.{if◌then◌else◌}
 use Rattle.meaning.specs.First.{first, IsFirst}
@@ -72,7 +72,7 @@ module _ (w p : List ℕ) where
 
       pub pool_tells : length w / 5 ≤ 8192 → ltb 65536 (length p) ≡ size_fault w p
       unfolding size_fault
-      pool_tells h = rw (eq-eqb (length w % 5) 0 a, ne_eqb (length w / 5) 0 b, le-ltb 8192 (length w / 5) h) (sym (or_false (ltb 65536 (length p))))
+      pool_tells h = rw (eq-eqb (length w % 5) 0 a, ne_eqb (length w / 5) 0 b, le-ltb 8192 (length w / 5) h) (sym (or-false (ltb 65536 (length p))))
 
   pub counted : (f : Bool) → f ≡ size_fault w p → f ≡ false → Counted w (length w / 5)
   unfolding size_fault nodes

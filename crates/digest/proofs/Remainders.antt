@@ -1,12 +1,11 @@
 -- The remainder of the digits so far may stand for them, since the digits to come only multiply and add.
-use mathlib.Core.Path.{◌≡◌, refl, sym, ◌∙◌}
+use Rattle.std.proofs.Math.Path.{◌≡◌, ◌∙◌}
+use Rattle.std.specs.Prelude.{refl, length, drop}
+use Rattle.std.proofs.Common.{sym, add-one, arith, drop-cons}
 use mathlib.Core.List.{List, [], ◌∷◌}
 use Prim.Native.Nat.{ℕ, ◌+◌, ◌*◌, ◌%◌, ◌/◌, ◌≤◌, ◌<◌}
-use native.Mathlib.Nat.{mod-mod, mod-eq_of_lt, div-add-mod, add-mul-mod_self_left}
-use native.Mathlib.Numerals.{add-one}
-use native.Mathlib.Omega.{arith}
-use lib.ListN.{length, drop, get_or, drop_of_length-le}
-use lib.Seq.{drop-cons}
+use Rattle.std.proofs.Math.Nat.{mod-mod, mod-eq_of_lt, div-add-mod, add-mul-mod_self_left}
+use Rattle.std.proofs.Math.ListN.{get_or, drop_of_length-le}
 use Rattle.digest.specs.Digest.{modulus, number_from, digest}
 
 one_digit : (n b : ℕ) → (256 * (n % modulus) + b) % modulus ≡ (256 * n + b) % modulus

@@ -1,5 +1,6 @@
 // A small digest of a text, for the digest job.
 #![tactic(auto)]
+
 ghost use Rattle.std.specs.Prelude.{◌≡◌};
 ghost use Rattle.digest.specs.Digest.{digest};
 

@@ -2,15 +2,15 @@
 #![tactic(auto)]
 
 // The number of a node of the table.
-#[derive(Drop)]
+#[derive(Clone, Copy)]
 pub struct NodeNumber(pub usize);
 
 // A place in a pool or an output, or a number of bytes there.
-#[derive(Drop)]
+#[derive(Clone, Copy)]
 pub struct Offset(pub usize);
 
 // Document 01's refusals, in the order of their numbers: with the place, or the needed length.
-#[derive(Drop)]
+#[derive(Clone, Copy)]
 pub enum Refusal {
     Settings,
     Size,
@@ -24,27 +24,27 @@ pub enum Refusal {
 }
 
 // What is said of a table.
-#[derive(Drop)]
+#[derive(Clone, Copy)]
 pub enum Checked {
     Accepted,
     Refused(Refusal),
 }
 
 // What printing answers: how many bytes it wrote, or why it wrote none.
-#[derive(Drop)]
+#[derive(Clone, Copy)]
 pub enum Printed {
     Written(Offset),
     Refused(Refusal),
 }
 
-#[derive(Drop)]
+#[derive(Clone, Copy)]
 pub enum Form {
     Quoted,
     Block,
 }
 
 // What reading a literal answers: its form and how many bytes its value has, or why none was written.
-#[derive(Drop)]
+#[derive(Clone, Copy)]
 pub enum Reading {
     Value(Form, Offset),
     Refused(Refusal),

@@ -1,5 +1,6 @@
 // An answer as document 01's numbers: 0 for success; the place; the length.
 #![tactic(auto)]
+
 ghost use Rattle.std.specs.Prelude.{◌≡◌};
 ghost use Rattle.std.proofs.Math.Option.{some};
 ghost use Rattle.meaning.specs.Answers.{refusal_answer, checked_answer, printed_answer, reading_answer, form_read};

@@ -9,7 +9,7 @@ ghost use Rattle.pen.specs.Wrote.{AtStart, Wrote};
 const LAST: usize = 0xffff_ffff_ffff_ffff;
 
 // Where the next byte goes. Callers use the laws of `Wrote`, never the fields.
-#[derive(Drop)]
+#[derive(Clone, Copy)]
 pub struct Pen {
     pub at: meaning::Offset,
 }

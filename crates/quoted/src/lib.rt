@@ -1,5 +1,6 @@
 // The quoted form of a string value: what need not be escaped is copied a run at a time, as in `serialize_string_value`.
 #![tactic(auto)]
+
 ghost use Rattle.std.specs.Prelude.{◌≡◌, ◌+◌, ◌<◌, drop};
 ghost use Rattle.meaning.specs.Quoted.{class, hex_digit, escaped, body, quoted};
 ghost use Rattle.pen.specs.Wrote.{Wrote};

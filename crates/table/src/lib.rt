@@ -1,5 +1,6 @@
 // The words of a node.
 #![tactic(auto)]
+
 ghost use Rattle.std.specs.Prelude.{◌≡◌, ◌<◌};
 ghost use Rattle.meaning.specs.Table.{word, kind_at, variant_at, start_at, length_at, end_at, text_at};
 ghost use Rattle.table.specs.Words.{InTable, TextInPool, Small};
