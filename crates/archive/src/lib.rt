@@ -11,7 +11,7 @@ use table_file::{Head, TableFile};
 const LONGEST_FILE: usize = 229_392;
 
 // Document 01's number, 0 for success, or the file's; the place; the length of the text, or the one that is needed.
-#[derive(Drop)]
+#[derive(Clone, Copy)]
 pub struct Archived {
     pub number: u64,
     pub place: u64,

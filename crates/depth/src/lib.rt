@@ -1,5 +1,6 @@
 // Refusal 5: the smallest node that is too deep. A node's depth is how many nodes before it are still open.
 #![tactic(auto)]
+
 ghost use Rattle.std.specs.Prelude.{◌≡◌};
 ghost use Rattle.meaning.specs.First.{first};
 ghost use Rattle.meaning.specs.Refusals.{depth_fault};

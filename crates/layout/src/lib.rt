@@ -24,21 +24,21 @@ const DIRECTIVE: usize = 19;
 const INPUT_VALUE_DEFINITION: usize = 22;
 
 // `State` of serialize.rs, by value: line breaks on or off, and the level.
-#[derive(Drop)]
+#[derive(Clone, Copy)]
 pub struct State {
     pub breaks: bool,
     pub level: usize,
 }
 
 // Where a walk over children stands: the next child, and the pen.
-#[derive(Drop)]
+#[derive(Clone, Copy)]
 pub struct Walk {
     pub node: NodeNumber,
     pub pen: Pen,
 }
 
 // What stands before each child of a walk: ` `, ` & `, ` | `, a new line or space, or a comma and that.
-#[derive(Drop)]
+#[derive(Clone, Copy)]
 pub enum Gap {
     Space,
     Ampersand,
@@ -48,7 +48,7 @@ pub enum Gap {
 }
 
 // What a place among the children asks for: a kind, a selection, a value.
-#[derive(Drop)]
+#[derive(Clone, Copy)]
 pub enum Class {
     Kind(usize),
     Selection,

@@ -68,7 +68,7 @@ pub fn serialize_string_value(
     write_chosen(table, blockwise, value, prefix, level, out, pen)
 }
 
-#[derive(Drop)]
+#[derive(Clone, Copy)]
 pub enum Fit {
     Yes,
     Needs(usize),

@@ -1,13 +1,14 @@
 // Names and numbers. Each part of a number is a function on the text and a place, and answers the place behind the part. A part takes all
 // that it can: there is nothing to come back to.
 #![tactic(auto)]
+
 ghost use Rattle.std.specs.Prelude.{◌≡◌, ◌||◌, drop};
 ghost use Rattle.meaning.specs.Children.{from◌to◌};
 ghost use Rattle.meaning.specs.Text.{is_digit, starts_name, is_name, digits, unsigned, integer_part, fractional_part, signed_digits, exponent_part, ends, is_int, is_float, same};
 ghost use Rattle.names.specs.Behind.{left, begins, PastDigits};
 
 // The place behind a part, or that the part does not stand there.
-#[derive(Drop)]
+#[derive(Clone, Copy)]
 enum Behind {
     At(usize),
     Nothing,

@@ -1,5 +1,6 @@
 // Refusal 4: a later node inside a node's subtree ends after it. The next node that ends later decides this, and links lead there.
 #![tactic(auto)]
+
 ghost use Rattle.std.specs.Prelude.{◌≡◌, true, false, ℕ, ◌+◌, ◌≤◌, ◌<◌, max, length};
 ghost use Rattle.meaning.specs.First.{first};
 ghost use Rattle.meaning.specs.Refusals.{nesting_fault};

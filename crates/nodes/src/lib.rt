@@ -1,5 +1,6 @@
 // Refusal 3: the smallest node whose kind, variant, text or end is wrong.
 #![tactic(auto)]
+
 ghost use Rattle.std.specs.Prelude.{◌≡◌, true, false, ◌<◌, length};
 ghost use Rattle.meaning.specs.First.{first};
 ghost use Rattle.meaning.specs.Table.{nodes, kind_at};

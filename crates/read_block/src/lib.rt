@@ -183,7 +183,7 @@ fn text_end(s: &[u8]) -> usize
 }
 
 // The least indent of the lines seen so far that are not blank.
-#[derive(Drop)]
+#[derive(Clone, Copy)]
 enum Indent {
     Unknown,
     Least(usize),

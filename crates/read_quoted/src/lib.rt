@@ -1,5 +1,6 @@
 // Reading one quoted string literal: bytes that stand for themselves are copied a run at a time, and each escape is taken apart.
 #![tactic(auto)]
+
 ghost use Rattle.std.specs.Prelude.{◌≡◌, ◌+◌, ◌<◌, ◌≤◌, length, drop};
 ghost use Rattle.meaning.specs.Utf8.{encoded};
 ghost use Rattle.meaning.specs.Reading.{hex_value, unicode_escape, letter_byte, escape as escape_of, quoted_front, characters, as_quoted};
@@ -15,14 +16,14 @@ use meaning::{Form, Reading, Refusal};
 use pen::Pen;
 
 // What an escape stands for: a scalar value, with the number of bytes after the backslash.
-#[derive(Drop)]
+#[derive(Clone, Copy)]
 enum Escaped {
     Scalar(u32, usize),
     Wrong,
 }
 
 // Where the pen stands once the whole value is written.
-#[derive(Drop)]
+#[derive(Clone, Copy)]
 enum Walked {
     To(Pen),
     Wrong,

@@ -11,20 +11,20 @@ use vector_lines::{Decoded, Listed, Number};
 const GUARD: u8 = 0xff;
 
 // How a document is printed.
-#[derive(Drop)]
+#[derive(Clone, Copy)]
 struct Setting {
     breaks: bool,
     level: usize,
 }
 
-#[derive(Drop)]
+#[derive(Clone, Copy)]
 enum Settings {
     Are(Setting),
     Bad,
 }
 
 // A text of no bytes has no shorter room, so that it is never refused.
-#[derive(Drop)]
+#[derive(Clone, Copy)]
 struct Tried {
     empty: bool,
     printed: bool,
@@ -34,7 +34,7 @@ struct Tried {
 }
 
 // What came of one line.
-#[derive(Drop)]
+#[derive(Clone, Copy)]
 enum Outcome {
     Comment,
     Damaged,
@@ -42,7 +42,7 @@ enum Outcome {
 }
 
 // What was counted. `failed` and `damaged` are the first such lines, and 0 where there are none.
-#[derive(Drop)]
+#[derive(Clone, Copy)]
 struct Tally {
     line: u64,
     documents: u64,

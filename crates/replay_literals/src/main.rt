@@ -11,27 +11,27 @@ use vector_lines::{Decoded, Number};
 const GUARD: u8 = 0xff;
 
 // How a literal is printed.
-#[derive(Drop)]
+#[derive(Clone, Copy)]
 struct Setting {
     is_description: bool,
     breaks: bool,
     level: usize,
 }
 
-#[derive(Drop)]
+#[derive(Clone, Copy)]
 enum Settings {
     Are(Setting),
     Bad,
 }
 
-#[derive(Drop)]
+#[derive(Clone, Copy)]
 enum Choice {
     First,
     Second,
     Neither,
 }
 
-#[derive(Drop)]
+#[derive(Clone, Copy)]
 struct Tried {
     printed: bool,
     refused: bool,
@@ -40,7 +40,7 @@ struct Tried {
 }
 
 // What came of one line.
-#[derive(Drop)]
+#[derive(Clone, Copy)]
 enum Outcome {
     Comment,
     Damaged,
@@ -48,7 +48,7 @@ enum Outcome {
 }
 
 // What was counted. `failed` and `damaged` are the first such lines, and 0 where there are none.
-#[derive(Drop)]
+#[derive(Clone, Copy)]
 struct Tally {
     line: u64,
     literals: u64,

@@ -1,5 +1,6 @@
 // Document 01's refusal 1, for a document or one literal.
 #![tactic(auto)]
+
 ghost use Rattle.std.specs.Prelude.{◌≡◌};
 ghost use Rattle.meaning.specs.Settings.{settings, blank, settings_fault};
 

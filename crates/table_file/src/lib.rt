@@ -6,7 +6,7 @@ ghost use Rattle.table_file.specs.File.{number_at, numbers_at, is_table_file, he
 use meaning::Offset;
 
 // What the first 16 bytes tell: how many words there are, and how long the file is.
-#[derive(Drop)]
+#[derive(Clone, Copy)]
 pub enum Head {
     Told(usize, usize),
     NotATable,
@@ -14,7 +14,7 @@ pub enum Head {
 }
 
 // How many words were stored, and where in the file the pool begins, which goes to its end. `Room`: how many words want storing.
-#[derive(Drop)]
+#[derive(Clone, Copy)]
 pub enum TableFile {
     Table(usize, Offset),
     NotATable,

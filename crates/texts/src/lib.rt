@@ -29,7 +29,7 @@ const DESCRIPTION: usize = 18;
 const STRING: usize = 38;
 
 // What a kind's text is: document 01's table of kinds, column "text".
-#[derive(Drop)]
+#[derive(Clone, Copy)]
 enum Rule {
     NoText,
     Name,

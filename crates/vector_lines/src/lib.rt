@@ -1,6 +1,7 @@
 // Lines of stored vectors: fields apart by one space, numbers in decimal, words by commas, bytes in hex. No public function requires
 // anything; what is not of this shape is refused.
 #![tactic(auto)]
+
 ghost use Rattle.std.specs.Prelude.{◌≡◌, true, ◌++◌, ◌+◌, ◌≤◌, ◌<◌, length, get_or, take, drop, replicate};
 ghost use Rattle.vector_lines.specs.Parts.{before, field_of, count_of, Past};
 ghost use Rattle.vector_lines.specs.Hex.{digit_of, paired, pairs, is_none, decoded};
@@ -8,21 +9,21 @@ ghost use Rattle.vector_lines.specs.Numbers.{number_of};
 ghost use Rattle.vector_lines.specs.Words.{is_word, word_of, are_words, words_of, listed};
 ghost use Rattle.vector_lines.specs.Throughout.{all_are};
 
-#[derive(Drop)]
+#[derive(Clone, Copy)]
 pub enum Number {
     Is(usize),
     Bad,
 }
 
 // How many bytes were decoded.
-#[derive(Drop)]
+#[derive(Clone, Copy)]
 pub enum Decoded {
     Bytes(usize),
     Bad,
 }
 
 // How many words were read.
-#[derive(Drop)]
+#[derive(Clone, Copy)]
 pub enum Listed {
     Words(usize),
     Bad,

@@ -1,6 +1,6 @@
 -- The tests of the code are those of `head_of`, in its order.
 use mathlib.Core.Path.{sym, ◌∙◌}
-use borrow.Author.Tests.{not_true, not_false}
+use borrow.Author.Tests.{not-true, not-false}
 use borrow.Author.Rules.{rules}
 use Rattle.table_file.specs.Ways.{head_none, head_short, head_told}
 use Rattle.table_file.proofs.read_head.Statement.{statement}
@@ -10,12 +10,12 @@ is-table-file-requires : tie.Need-is-table-file-requires
 is-table-file-requires c κs = search rules
 
 returns : tie.Need-returns
-returns c = sym (head_none _ (sym c.before.is-table-file.ensures ∙ not_true _ c.if1.true))
+returns c = sym (head_none _ (sym c.before.is-table-file.ensures ∙ not-true _ c.if1.true))
 
 returns-2 : tie.Need-returns-2
 returns-2 c =
     let a = c.before in
-    sym (head_short _ (sym a.before.is-table-file.ensures ∙ not_false _ a.if1.false) c.if2.true)
+    sym (head_short _ (sym a.before.is-table-file.ensures ∙ not-false _ a.if1.false) c.if2.true)
 
 number-requires : tie.Need-number-requires
 number-requires c κs = search rules
@@ -42,7 +42,7 @@ returns-3 : tie.Need-returns-3
 returns-3 c =
     let b = c.before.before in
     let a = b.before.before in
-    let is = sym a.before.before.is-table-file.ensures ∙ not_false _ a.before.if1.false in
+    let is = sym a.before.before.is-table-file.ensures ∙ not-false _ a.before.if1.false in
     sym (head_told _ _ _ is a.if2.false (b.place.ensures ∙ b.before.number.ensures) (c.place2.ensures ∙ c.before.number2.ensures))
 
 pub read-head-spec : {M : Type 1} → statement M

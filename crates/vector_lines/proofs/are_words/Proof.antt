@@ -2,7 +2,7 @@
 use mathlib.Core.Path.{◌≡◌, sym, ◌∙◌}
 use lib.ListN.{drop}
 use borrow.Author.Rules.{rules}
-use borrow.Author.Tests.{not_true, not_false}
+use borrow.Author.Tests.{not-true, not-false}
 use Rattle.vector_lines.specs.Words.{are_words}
 use Rattle.vector_lines.proofs.Commas.{words_bad, words_more, words_end}
 use Rattle.vector_lines.proofs.are_words.Statement.{statement}
@@ -32,7 +32,7 @@ returns c =
     let b = a.before.before in
     let l = b.before.loop in
     let s = b.before.before.before.args.s.now in
-    let bad = not_true _ c.if1.true in
+    let bad = not-true _ c.if1.true in
     sym (words_bad s l.at _ b.loop-test.true a.before.part.ensures a.is_IsWord.ensures bad) ∙ l.invariant
 
 past-requires : tie.Need-past-requires invariant-loop decreases-loop
@@ -45,7 +45,7 @@ loop-again : tie.Need-loop-preserved invariant-loop decreases-loop
 loop-again c =
     let a = c.before.before in
     let b = a.before.before in
-    let good = not_false _ c.before.if1.false in
+    let good = not-false _ c.before.if1.false in
     words_more _ _ _ _ b.loop-test.true a.before.part.ensures a.is_IsWord.ensures good c.past.ensures
     ∙ b.before.loop.invariant
 

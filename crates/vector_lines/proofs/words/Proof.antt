@@ -2,7 +2,7 @@
 use mathlib.Core.Path.{sym, ◌∙◌}
 use native.Mathlib.Omega.{arith}
 use borrow.Author.Rules.{rules}
-use borrow.Author.Tests.{not_true, not_false}
+use borrow.Author.Tests.{not-true, not-false}
 use Rattle.vector_lines.proofs.Commas.{listed_none, listed_large, listed_bad, listed_stored}
 use Rattle.vector_lines.proofs.words.Statement.{statement}
 use Rattle.vector_lines.proofs.words.Tie as tie
@@ -33,12 +33,12 @@ returns-3 c =
     let a = c.before.before in
     let b = a.before.before in
     let none = sym b.before.is_none.ensures ∙ b.if1.false in
-    let bad = sym c.before.are_words.ensures ∙ not_true _ c.if3.true in
+    let bad = sym c.before.are_words.ensures ∙ not-true _ c.if3.true in
     sym (listed_bad _ _ _ none a.before.count.ensures a.if2.false bad)
 
 store-words-requires : tie.Need-store-words-requires
 store-words-requires c κs =
-    (sym c.before.before.are_words.ensures ∙ not_false _ c.before.if3.false, omega arith)
+    (sym c.before.before.are_words.ensures ∙ not-false _ c.before.if3.false, omega arith)
 
 same_length : tie.Need-same-length
 same_length c = search rules
@@ -49,7 +49,7 @@ returns-4 c =
     let a = d.before.before in
     let b = a.before.before in
     let none = sym b.before.is_none.ensures ∙ b.if1.false in
-    let words = sym d.before.are_words.ensures ∙ not_false _ d.if3.false in
+    let words = sym d.before.are_words.ensures ∙ not-false _ d.if3.false in
     sym (listed_stored _ _ _ _ none a.before.count.ensures a.if2.false words c.before.before.store_words_lem.ensures)
 
 pub words-spec : {M : Type 1} → statement M
