@@ -1,5 +1,6 @@
 // Block strings: whether a value can be written as one, and its text.
 #![tactic(auto)]
+
 ghost use Rattle.std.specs.Prelude.{◌≡◌, ◌∷◌, ◌≤◌, length, drop};
 ghost use Rattle.meaning.specs.Ascii.{line_feed};
 ghost use Rattle.meaning.specs.Settings.{times};

@@ -1,13 +1,13 @@
 -- The literal once its form is chosen, and whether it fits.
-use Rattle.std.specs.Prelude.{◌≡◌, refl, Bool, true, false, not, ◌&&◌, ◌||◌, List, ℕ, ◌+◌, ◌*◌, ◌/◌, ◌≤◌, ◌<◌, ◌^◌, ◌-◌, leb, length}
-use Rattle.std.proofs.Common.{sym, ap, ◌∙◌, arith, mul-le-mul, le-leb}
+use Rattle.std.specs.Prelude.{◌≡◌, refl, Bool, true, false, not, ◌&&◌, ◌||◌, List, ℕ, ◌+◌, ◌*◌, ◌≤◌, ◌<◌, leb, length}
+use Rattle.std.proofs.Common.{arith, mul-le-mul, le-leb}
 use Rattle.std.proofs.lemmas.Bool.{lt-leb}
 use Rattle.base.specs.Bools.{clash, not_true, not_false}
 use Rattle.meaning.specs.Ascii.{if◌then◌else◌, line_feed}
-use Rattle.meaning.specs.Settings.{Settings, settings, times, indentation}
+use Rattle.meaning.specs.Settings.{settings, times}
 use Rattle.meaning.specs.Quoted.{quoted}
 use Rattle.meaning.specs.Block.{has, can_be_block_string, block_string}
-use Rattle.meaning.specs.Literal.{takes_block, literal}
+use Rattle.meaning.specs.Literal.{literal}
 use Rattle.meaning.specs.Demand.{line_feeds, quoted_bound, block_bound}
 use Rattle.literal_laws.specs.QuotedBound.{quoted_bound_lem}
 use Rattle.literal_laws.specs.BlockBound.{few_feeds, block_bound_lem}

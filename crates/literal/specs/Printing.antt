@@ -1,7 +1,7 @@
 -- What printing a literal answers, by where it stops: each refusal in the order of the numbers, then the literal itself.
-use Rattle.std.specs.Prelude.{◌≡◌, refl, Bool, true, false, not, List, ◌++◌, ℕ, ◌≤◌, ◌<◌, leb, length, drop}
+use Rattle.std.specs.Prelude.{◌≡◌, refl, Bool, true, false, not, List, ℕ, ◌≤◌, ◌<◌, leb, length}
 use Rattle.std.proofs.Math.Path.{sym}
-use Rattle.std.proofs.Common.{◌∙◌, ap, arith}
+use Rattle.std.proofs.Common.{◌∙◌, arith}
 use borrow.Author.Tests.{lt-ltb, le-ltb, leb-true, leb-false}
 use Rattle.base.specs.Bools.{not_true, not_false}
 use Rattle.meaning.specs.Ascii.{if◌then◌else◌}
@@ -9,13 +9,12 @@ use Rattle.meaning.specs.Utf8.{utf8}
 use Rattle.meaning.specs.Settings.{Settings, literal_levels, settings_fault}
 use Rattle.meaning.specs.Literal.{literal}
 use Rattle.meaning.specs.Refusals.{value_size_fault}
-use Rattle.meaning.specs.Answers.{Answer, answer}
-use Rattle.meaning.specs.Entries.{written, printed_literal}
+use Rattle.meaning.specs.Answers.{answer}
+use Rattle.meaning.specs.Entries.{printed_literal}
 use Rattle.meaning.specs.Demand.{Printable}
 use Rattle.demand.specs.Three.{printed_is_written, written_fits, written_short}
 use Rattle.pen.specs.declared.Pen.{Pen}
 use Rattle.pen.specs.Wrote.{AtStart, Wrote, wrote_front}
-use Rattle.literal.specs.declared.Fit.{Fit}
 use Rattle.literal.specs.declared.Fit.TheVariants.{Yes, Needs}
 use Rattle.literal.specs.Chosen.{fit_of}
 

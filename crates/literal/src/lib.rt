@@ -1,5 +1,6 @@
 // One string literal, printed into lent memory.
 #![tactic(auto)]
+
 ghost use Rattle.std.specs.Prelude.{◌≡◌, true, false, ◌&&◌, ◌||◌, ◌+◌, ◌*◌, ◌≤◌, length};
 ghost use Rattle.meaning.specs.Ascii.{line_feed};
 ghost use Rattle.meaning.specs.Settings.{settings, times};

@@ -1,10 +1,11 @@
 -- What reading answers once its text is written, or measured and found too long: the definition's answer for that text.
-use mathlib.Core.Path.{◌≡◌, ap, ◌∙◌}
-use mathlib.Core.Option.{Option}
+use Rattle.std.proofs.Math.Path.{◌≡◌, ◌∙◌}
+use Rattle.std.proofs.Common.{ap, le-leb}
+use Rattle.std.proofs.Math.Option.{Option}
 use mathlib.Core.List.{List, [], ◌++◌}
 use Prim.Native.Nat.{ℕ, ◌≤◌, ◌<◌}
-use lib.ListN.{length, drop}
-use borrow.Author.Tests.{le-leb, lt-leb}
+use Rattle.std.specs.Prelude.{length, drop}
+use Rattle.std.proofs.lemmas.Bool.{lt-leb}
 use Rattle.meaning.specs.declared.Form.TheVariants.{Block}
 use Rattle.meaning.specs.declared.Reading.{Reading}
 use Rattle.meaning.specs.declared.Reading.TheVariants.{Value, Refused}

@@ -1,13 +1,11 @@
 -- The parts of a source as they are lent on: from a start to the end, and from there up to an end.
-use mathlib.Core.Path.{◌≡◌, refl, sym, ap, ◌∙◌}
-use mathlib.Core.Bool.{true, false}
-use mathlib.Core.Option.{none, some}
-use mathlib.Core.List.{List}
+use Rattle.std.proofs.Math.Path.{◌≡◌, ◌∙◌}
+use Rattle.std.specs.Prelude.{refl, true, false, List, length, take, drop}
+use Rattle.std.proofs.Common.{sym, ap, zero-add, arith, length-drop}
+use Rattle.std.proofs.Math.Option.{none, some}
 use Prim.Native.Nat.{ℕ, min, ◌+◌, ◌-◌, ◌≤◌, ◌<◌}
-use native.Mathlib.Nat.{zero-add}
-use native.Mathlib.Omega.{arith}
-use lib.ListN.{length, take, drop, length-drop, drop_of_length-le}
-use lib.Seq.{take_all}
+use Rattle.std.proofs.Math.ListN.{drop_of_length-le}
+use Rattle.std.proofs.Math.Seq.{take_all}
 use Rattle.meaning.specs.Block.{indent, common_indent, block_string_value}
 use Rattle.meaning.specs.Reading.{block_front, characters, as_block, value, block_form}
 use Rattle.meaning.specs.Answers.{answer}

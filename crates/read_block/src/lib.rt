@@ -1,5 +1,6 @@
 // Reads one block string straight from its source: no line is copied before it is written.
 #![tactic(auto)]
+
 ghost use Rattle.std.specs.Prelude.{◌≡◌, ◌+◌, ◌≤◌, ◌<◌, min, length, take, drop};
 ghost use Rattle.meaning.specs.Block.{indent, common_indent, block_string_value};
 ghost use Rattle.meaning.specs.Reading.{block_form, value, block_front, characters, as_block};

@@ -6,7 +6,7 @@ use Rattle.std.proofs.Math.Option.{Option, none, some}
 use Rattle.std.proofs.lemmas.Bool.{lt-leb}
 use Rattle.meaning.specs.Ascii.{if◌then◌else◌, quote}
 use Rattle.meaning.specs.Utf8.{encoded}
-use Rattle.meaning.specs.Reading.{quoted_form, value, quoted_front, characters, as_quoted}
+use Rattle.meaning.specs.Reading.{quoted_form, quoted_front, characters, as_quoted}
 use Rattle.meaning.specs.Answers.{answer}
 use Rattle.meaning.specs.Entries.{written, read_of}
 use Rattle.literal_laws.specs.Grammar.{Characters, close, more}
