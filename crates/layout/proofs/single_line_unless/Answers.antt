@@ -1,0 +1,13 @@
+-- `layout::single_line_unless` meets its contract: the mark decides.
+use Rattle.layout.proofs.single_line_unless.Reads as reads
+use Rattle.layout.proofs.single_line_unless.Lts as lts
+use Rattle.layout.proofs.on_single_line.Reads as on-single-line-reads
+use Rattle.layout.proofs.single_line_unless.Goals as goal
+
+-- src/lib.rt:144:9
+pub returns-then-marked : goal.returns-then-marked
+returns-then-marked c = λ p. rw c.if-marked.true
+
+-- src/lib.rt:140:1
+pub returns : goal.returns
+returns c = λ p. rw c.if-marked.false (c.on_single_line.ensures p)
