@@ -1,10 +1,11 @@
 -- Two texts of one length, compared byte by byte: what is left of them is the same exactly if they are.
-use mathlib.Core.Path.{◌≡◌, refl, ap, ◌∙◌}
-use mathlib.Core.Bool.{Bool, true, false, ◌&&◌}
+use Rattle.std.proofs.Math.Path.{◌≡◌, ◌∙◌}
+use Rattle.std.specs.Prelude.{refl, Bool, true, false, eqb, length, drop}
+use Rattle.std.proofs.Common.{ap}
+use Rattle.std.proofs.Math.Bool.{◌&&◌}
 use mathlib.Core.List.{List, [], ◌∷◌}
 use Prim.Native.Nat.{ℕ, suc, ◌+◌, ◌≤◌, ◌<◌}
-use lib.Dec.{eqb}
-use lib.ListN.{length, get_or, drop, drop_of_length-le}
+use Rattle.std.proofs.Math.ListN.{get_or, drop_of_length-le}
 use borrow.Author.Tests.{eq-eqb, ne_eqb}
 use Rattle.base.specs.Bools.{and_false}
 use Rattle.meaning.specs.Text.{same}

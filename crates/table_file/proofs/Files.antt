@@ -1,13 +1,11 @@
 -- A number's four bytes, a file too short for its magic, and words stored one by one.
-use mathlib.Core.Path.{◌≡◌, refl, ap, ◌∙◌}
-use mathlib.Core.Bool.{Bool, true, false}
+use Rattle.std.proofs.Math.Path.{◌≡◌, ◌∙◌}
+use Rattle.std.specs.Prelude.{refl, Bool, true, false, eqb, length, take, drop, set}
+use Rattle.std.proofs.Common.{ap, add-one, arith, length-take}
 use mathlib.Core.List.{List, [], ◌∷◌, ◌++◌}
 use Prim.Native.Nat.{ℕ, suc, ◌+◌, ◌-◌, ◌*◌, ◌≤◌, ◌<◌}
-use native.Mathlib.Numerals.{add-one}
-use native.Mathlib.Omega.{arith}
-use lib.Dec.{eqb}
-use lib.ListN.{length, take, drop, get_or, set, length-take}
-use lib.Seq.{sets, sets-eq}
+use Rattle.std.proofs.Math.ListN.{get_or}
+use Rattle.std.proofs.lemmas.List.Edits.{sets, sets-eq}
 use Rattle.meaning.specs.Text.{same}
 use Rattle.base.specs.Bools.{and_right, clash}
 use Rattle.table_file.specs.Within.{numbers_length}

@@ -1,5 +1,6 @@
 // The node table file, read: docs/TABLE-FILE.md. Any bytes get an answer.
 #![tactic(auto)]
+
 ghost use Rattle.std.specs.Prelude.{◌≡◌, ◌++◌, ◌+◌, ◌*◌, ◌≤◌, ◌<◌, length, drop};
 ghost use Rattle.table_file.specs.File.{number_at, numbers_at, is_table_file, head_of, table_of};
 

@@ -1,14 +1,12 @@
 -- The bytes that go on with a sequence, one at a time: past the end of the text 0 is read, which does not go on, and the value so far
 -- leaves room for six bits of each byte that is still to come.
-use mathlib.Core.Path.{◌≡◌, refl, ap, ◌∙◌}
-use mathlib.Core.Bool.{Bool, true, false, ◌&&◌}
-use mathlib.Core.List.{List}
+use Rattle.std.proofs.Math.Path.{◌≡◌, ◌∙◌}
+use Rattle.std.specs.Prelude.{refl, Bool, true, false, List, length, drop}
+use Rattle.std.proofs.Common.{ap, add-one, sub-one, arith, drop-cons}
+use Rattle.std.proofs.Math.Bool.{◌&&◌}
 use Prim.Native.Nat.{ℕ, zero, suc, ◌+◌, ◌-◌, ◌*◌, ◌%◌, ◌^◌, ◌≤◌, ◌<◌}
-use native.Mathlib.Numerals.{add-one, sub-one}
-use native.Mathlib.Decide.{dec_lt}
-use native.Mathlib.Omega.{arith}
-use lib.ListN.{length, get_or, drop, drop_of_length-le, get_or-eq_default}
-use lib.Seq.{drop-cons}
+use Rattle.std.proofs.Math.Decide.{dec_lt}
+use Rattle.std.proofs.Math.ListN.{get_or, drop_of_length-le, get_or-eq_default}
 use Rattle.meaning.specs.Utf8.{goes_on, fine}
 use Rattle.text.specs.Sequence.{good_end}
 

@@ -1,11 +1,10 @@
 -- The leading ones of a byte are the leading zeros of the byte inverted: tried at each of the 256 bytes.
-use mathlib.Core.Path.{◌≡◌, refl}
-use mathlib.Core.Bool.{Bool}
+use Rattle.std.proofs.Math.Path.{◌≡◌}
+use Rattle.std.specs.Prelude.{refl, Bool, eqb}
 use Prim.Native.Nat.{ℕ, ◌-◌, ◌<◌, min}
-use native.Mathlib.Decide.{ℕ_discrete}
-use native.Mathlib.Omega.{arith}
-use lib.Count.{count_leading_zeros}
-use lib.Dec.{eqb}
+use Rattle.std.proofs.Math.Decide.{ℕ_discrete}
+use Rattle.std.proofs.Common.{arith}
+use Rattle.std.specs.Int.Count.{count_leading_zeros}
 use borrow.Author.Tests.{eqb-true, eq-eqb, ne_eqb}
 use Rattle.base.specs.Finite.{below}
 use Rattle.meaning.specs.Utf8.{leading_ones, goes_on}

@@ -1,12 +1,12 @@
 -- The arms of the `match` on a kind that are no single number: a kind of the range that has no arm of its own has the arm's rule, by a
 -- test that is computed over the range.
-use mathlib.Core.Path.{◌≡◌, refl, sym, ap, ◌∙◌}
-use mathlib.Core.Bool.{true, ◌||◌}
+use Rattle.std.proofs.Math.Path.{◌≡◌, ◌∙◌}
+use Rattle.std.specs.Prelude.{refl, true, eqb}
+use Rattle.std.proofs.Common.{sym, ap, eqb-true}
+use Rattle.std.proofs.Math.Bool.{◌||◌}
 use mathlib.Core.List.{List, [], ◌∷◌}
 use Prim.Native.Nat.{ℕ, ◌+◌, ◌≤◌, ◌<◌}
-use lib.Dec.{eqb}
-use lib.ListN.{get_or}
-use borrow.Author.Tests.{eqb-true}
+use Rattle.std.proofs.Math.ListN.{get_or}
 use Rattle.base.specs.Finite.{all}
 use Rattle.base.specs.Arms.{Rest, member, arm}
 use Rattle.meaning.specs.Children.{TextRule, no_text, name, name_or_empty, fragment_name, enum_name, float, int, any_text, row_of}

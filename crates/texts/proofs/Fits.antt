@@ -1,11 +1,10 @@
 -- What the definition asks of a text, rule by rule, in the words of the code's tests; and the fault of a node by its words.
-use mathlib.Core.Path.{◌≡◌, refl, sym, ◌∙◌}
-use mathlib.Core.Bool.{Bool, true, false, not, ◌&&◌, ◌||◌}
+use Rattle.std.proofs.Math.Path.{◌≡◌, refl, ◌∙◌}
+use Rattle.std.proofs.Common.{sym, arith}
+use Rattle.std.specs.Prelude.{Bool, true, false, not, eqb, length, take, drop}
+use Rattle.std.proofs.Math.Bool.{◌&&◌, ◌||◌}
 use mathlib.Core.List.{List, [], ◌∷◌}
 use Prim.Native.Nat.{ℕ, ◌+◌, ◌-◌}
-use native.Mathlib.Omega.{arith}
-use lib.Dec.{eqb}
-use lib.ListN.{length, take, drop}
 use borrow.Author.Tests.{ne_eqb}
 use Rattle.meaning.specs.Ascii.{ascii}
 use Rattle.meaning.specs.Utf8.{utf8}

@@ -1,26 +1,26 @@
 -- Why a look through the window is enough: a text of a name's bytes that is within its kind's limits fits, and a text of ASCII is UTF-8.
 -- The tables are right by a test that is computed over all of their entries.
-use mathlib.Core.Path.{◌≡◌, refl, sym, ap, ◌∙◌}
-use mathlib.Core.Bool.{Bool, true, false, not, ◌&&◌, ◌||◌}
+use Rattle.std.proofs.Math.Path.{◌≡◌, ap, ◌∙◌}
+use Rattle.std.specs.Prelude.{refl, Bool, true, false, eqb, leb, length, drop}
+use Rattle.std.proofs.Common.{arith, length-drop, length-take-le}
+use Rattle.std.proofs.Math.Bool.{◌||◌}
 use mathlib.Core.List.{List, [], ◌∷◌}
-use Prim.Native.Nat.{ℕ, zero, suc, ◌+◌, ◌-◌, ◌*◌, ◌≤◌, ◌<◌, min}
-use native.Mathlib.Nat.{min-eq_left, min-eq_right}
-use native.Mathlib.Decide.{dec_le}
-use native.Mathlib.Omega.{arith}
-use lib.Dec.{eqb, leb}
-use lib.ListN.{length, get_or, take, drop, length-drop, drop_of_length-le}
-use lib.Seq.{length-take-le, get_or-take, get_or-drop}
+use Prim.Native.Nat.{ℕ, suc, ◌+◌, ◌-◌, ◌*◌, ◌≤◌, ◌<◌, min}
+use Rattle.std.proofs.Math.Nat.{min-eq_left, min-eq_right}
+use Rattle.std.proofs.Math.Decide.{dec_le}
+use Rattle.std.proofs.Math.ListN.{get_or, take, drop_of_length-le}
+use Rattle.std.proofs.Math.Seq.{get_or-take, get_or-drop}
 use borrow.Author.Tests.{eqb-true, eq-eqb, ne_eqb, lt-leb}
-use Rattle.base.specs.Bools.{clash, and_left, and_right, and_false}
+use Rattle.base.specs.Bools.{clash, and_false}
 use Rattle.base.specs.Finite.{all, below}
 use Rattle.meaning.specs.Ascii.{if◌then◌else◌, ascii}
 use Rattle.meaning.specs.Utf8.{utf8}
 use Rattle.meaning.specs.Kind
 use Rattle.meaning.specs.Children.{TextRule, no_text, name, name_or_empty, fragment_name, enum_name, float, int, any_text, row_of}
 use Rattle.meaning.specs.Text.{starts_name, is_digit, goes_on_name, is_name, same, is_reserved, text_fits}
-use Rattle.text.specs.Run.{AsciiTo, ascii_run_passes}
+use Rattle.text.specs.Run.{ascii_run_passes}
 use Rattle.texts.specs.Plain.{least, most, lowest, highest, Limits, Limited, Full, strange, strange_through, byte_through}
-use Rattle.texts.proofs.Fits.{no_text_by, name_by, name_or_empty_by, fragment_name_by, enum_name_by, any_text_by, reserved_by}
+use Rattle.texts.proofs.Fits.{no_text_by, name_by, name_or_empty_by, fragment_name_by, enum_name_by, reserved_by}
 
 -- ---- the tables of src/tables.rt
 

@@ -1,6 +1,7 @@
 // Refusal 7: the text of a node is not what its kind asks for. Most texts are short names or short ASCII: these are looked at through a
 // window of the pool, in the same few steps whatever their length, and only the others byte by byte.
 #![tactic(auto)]
+
 mod tables;
 
 ghost use Rattle.std.specs.Prelude.{◌≡◌, true, false, ℕ, ◌+◌, ◌≤◌, ◌<◌, min, length, take, drop};

@@ -1,14 +1,12 @@
 -- Words between commas, a part at a time, and words stored from the front.
-use mathlib.Core.Path.{◌≡◌, refl, sym, ap, ◌∙◌}
-use mathlib.Core.Bool.{Bool, true, false, ◌&&◌}
+use Rattle.std.proofs.Math.Path.{◌≡◌, ◌∙◌}
+use Rattle.std.specs.Prelude.{refl, Bool, true, false, ltb, length, drop, set}
+use Rattle.std.proofs.Common.{sym, ap, add-one, arith, le-leb}
+use Rattle.std.proofs.Math.Bool.{◌&&◌}
 use mathlib.Core.List.{List, ◌++◌}
 use Prim.Native.Nat.{ℕ, zero, suc, ◌+◌, ◌-◌, ◌^◌, ◌≤◌, ◌<◌}
-use native.Mathlib.Numerals.{add-one}
-use native.Mathlib.Omega.{arith}
-use lib.Dec.{ltb}
-use lib.ListN.{length, drop, set}
-use lib.Seq.{sets}
-use borrow.Author.Tests.{le-leb, lt-leb}
+use Rattle.std.proofs.lemmas.List.Edits.{sets}
+use Rattle.std.proofs.lemmas.Bool.{lt-leb}
 use Rattle.vector_lines.specs.declared.Number.{Number}
 use Rattle.vector_lines.specs.declared.Number.TheVariants.{Is, Bad}
 use Rattle.vector_lines.specs.declared.Listed.TheVariants.{Words, Bad as NotListed}

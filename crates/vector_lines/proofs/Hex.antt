@@ -1,14 +1,12 @@
 -- Digits, numbers and pairs of digits, a byte at a time.
-use mathlib.Core.Path.{◌≡◌, refl, ap, ◌∙◌}
-use mathlib.Core.Bool.{Bool, true, false, ◌&&◌}
+use Rattle.std.proofs.Math.Path.{◌≡◌, ◌∙◌}
+use Rattle.std.specs.Prelude.{refl, Bool, true, false, eqb, ltb, length, drop, set}
+use Rattle.std.proofs.Common.{ap, not-suc-le-zero, add-one, arith}
+use Rattle.std.proofs.Math.Bool.{◌&&◌}
 use mathlib.Core.List.{List, [], ◌∷◌, ◌++◌}
 use Prim.Native.Nat.{ℕ, zero, suc, ◌+◌, ◌-◌, ◌*◌, ◌/◌, ◌%◌, ◌^◌, ◌≤◌, ◌<◌}
-use native.Mathlib.Nat.{not-suc-le-zero}
-use native.Mathlib.Numerals.{add-one}
-use native.Mathlib.Omega.{arith}
-use lib.Dec.{eqb, ltb}
-use lib.ListN.{length, drop, get_or, set, drop_of_length-le}
-use lib.Seq.{sets, sets-eq}
+use Rattle.std.proofs.Math.ListN.{get_or, drop_of_length-le}
+use Rattle.std.proofs.lemmas.List.Edits.{sets, sets-eq}
 use borrow.Author.Tests.{ltb-true, lt-ltb, le-ltb, le-leb, lt-leb, eq-eqb, ne_eqb}
 use Rattle.vector_lines.specs.declared.Number.TheVariants.{Is, Bad}
 use Rattle.vector_lines.specs.declared.Decoded.TheVariants.{Bytes, Bad as Decoded-as-Bad}

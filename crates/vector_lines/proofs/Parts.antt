@@ -1,13 +1,11 @@
 -- Walking a text by an index: what stands before and after the next `stop`, a byte at a time, and where it ends.
-use mathlib.Core.Path.{◌≡◌, refl, sym, ap, ◌∙◌}
-use mathlib.Core.Bool.{Bool, true, false, cond}
+use Rattle.std.proofs.Math.Path.{◌≡◌, ◌∙◌}
+use Rattle.std.specs.Prelude.{refl, Bool, true, false, cond, eqb, length, take, drop}
+use Rattle.std.proofs.Common.{sym, ap, add-one, arith, length-drop, drop-cons, drop-drop}
 use mathlib.Core.List.{List, [], ◌∷◌}
 use Prim.Native.Nat.{ℕ, suc, ◌+◌, ◌-◌, ◌≤◌, ◌<◌}
-use native.Mathlib.Numerals.{add-one}
-use native.Mathlib.Omega.{arith}
-use lib.Dec.{eqb}
-use lib.ListN.{length, take, drop, get_or, length-drop, drop_of_length-le}
-use lib.Seq.{drop-cons, drop-drop, drop-length}
+use Rattle.std.proofs.Math.ListN.{get_or, drop_of_length-le}
+use Rattle.std.proofs.Math.Seq.{drop-length}
 use borrow.Author.Tests.{eq-eqb, ne_eqb}
 use Rattle.vector_lines.specs.Parts.{before, after, field_of, count_of, space, Past}
 

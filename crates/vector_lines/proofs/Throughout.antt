@@ -1,10 +1,10 @@
 -- Whether a text holds one byte throughout, a byte at a time.
-use mathlib.Core.Path.{◌≡◌}
-use mathlib.Core.Bool.{true, false}
+use Rattle.std.proofs.Math.Path.{◌≡◌}
+use Rattle.std.specs.Prelude.{true, false, length, drop, replicate}
 use mathlib.Core.List.{List, ◌++◌, append-nil}
 use Prim.Native.Nat.{ℕ, ◌+◌, ◌≤◌, ◌<◌}
-use lib.ListN.{length, drop, get_or, replicate, drop_of_length-le}
-use lib.Seq.{drop-length}
+use Rattle.std.proofs.Math.ListN.{get_or, drop_of_length-le}
+use Rattle.std.proofs.Math.Seq.{drop-length}
 use borrow.Author.Tests.{eq-eqb, ne_eqb}
 use Rattle.vector_lines.specs.Throughout.{all_are}
 use Rattle.vector_lines.proofs.Parts.{drop_one}

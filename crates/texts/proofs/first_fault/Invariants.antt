@@ -1,0 +1,12 @@
+-- The nodes passed have no fault, so the first that has one is the smallest.
+use Rattle.std.proofs.Math.Path.{◌≡◌}
+use Rattle.std.specs.Prelude.{false}
+use Prim.Native.Nat.{ℕ, ◌-◌, ◌≤◌, ◌<◌}
+use Rattle.meaning.specs.Refusals.{text_fault}
+use Rattle.texts.proofs.first_fault.Given as goal
+
+abbrev pub invariant-loop-i : goal.invariant-loop-i
+invariant-loop-i l = (l.i ≤ l.n) × ((k : ℕ) → k < l.i → text_fault l.words l.pool k ≡ false)
+
+abbrev pub decreases-loop-i : goal.decreases-loop-i
+decreases-loop-i l = l.n - l.i
