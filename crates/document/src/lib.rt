@@ -1,5 +1,6 @@
 // A whole document: any table, settings and output get an answer.
 #![tactic(auto)]
+
 ghost use Rattle.std.specs.Prelude.{◌≡◌, ◌≤◌, ◌<◌};
 ghost use Rattle.meaning.specs.Settings.{settings};
 ghost use Rattle.meaning.specs.Table.{tree_of, forest};
