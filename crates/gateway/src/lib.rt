@@ -1,11 +1,12 @@
-// The C interface: numbers and byte slices. The result is document 01's number, 0 for success.
+// What the C interface answers, in numbers and byte slices: the result is document 01's number, 0 for success. The static library
+// `gateway_c` exports these functions under their names.
 #![tactic(auto)]
+
 ghost use Rattle.std.specs.Prelude.{◌≡◌};
 ghost use Rattle.meaning.specs.Entries.{printed_literal_by_numbers, read_literal, checked_table, checked_document_by_numbers, printed_document_by_numbers};
 ghost use Rattle.gateway.specs.Numbers.{Told, ToldForm, ToldPlace, ToldWhole};
 
-#[unsafe(no_mangle)]
-pub extern "C" fn dervisclo_print_literal(
+pub fn dervisclo_print_literal(
     value: &[u8],
     description: u32,
     breaks: u32,
@@ -36,13 +37,7 @@ pub extern "C" fn dervisclo_print_literal(
     numbers::printed_number(answer)
 }
 
-#[unsafe(no_mangle)]
-pub extern "C" fn dervisclo_read_literal(
-    text: &[u8],
-    out: &mut [u8],
-    length: &mut u64,
-    form: &mut u32,
-) -> u32
+pub fn dervisclo_read_literal(text: &[u8], out: &mut [u8], length: &mut u64, form: &mut u32) -> u32
     ensures { ToldForm (read_literal text.now out.old) result length.new form.new out.new }
 {
     let answer = reader::read_literal(text, out);
@@ -57,8 +52,7 @@ pub extern "C" fn dervisclo_read_literal(
 }
 
 // The lowest refusal of a table, and its place; 0 where it is accepted.
-#[unsafe(no_mangle)]
-pub extern "C" fn dervisclo_check_table(words: &[u32], pool: &[u8], place: &mut u64) -> u32
+pub fn dervisclo_check_table(words: &[u32], pool: &[u8], place: &mut u64) -> u32
     ensures { ToldPlace (checked_table words.now pool.now) result place.new }
 {
     let answer = check_table::check_table(words, pool);
@@ -67,8 +61,7 @@ pub extern "C" fn dervisclo_check_table(words: &[u32], pool: &[u8], place: &mut 
 }
 
 // The same for a document that is to be printed under these settings.
-#[unsafe(no_mangle)]
-pub extern "C" fn dervisclo_check_document(
+pub fn dervisclo_check_document(
     breaks: u32,
     prefix: &[u8],
     level: u64,
@@ -88,8 +81,7 @@ pub extern "C" fn dervisclo_check_document(
 }
 
 // A table's document under these settings: its length, or the lowest refusal with its place or the needed length.
-#[unsafe(no_mangle)]
-pub extern "C" fn dervisclo_print_document(
+pub fn dervisclo_print_document(
     breaks: u32,
     prefix: &[u8],
     level: u64,
