@@ -1,15 +1,15 @@
 -- What reading a literal answers, by how the text begins.
-use Rattle.std.specs.Prelude.{◌≡◌, Bool, true, false, not, List, [], ◌∷◌, ℕ, ◌≤◌, ◌<◌, eqb, length, drop, get_or}
+use Rattle.std.specs.Prelude.{◌≡◌, Bool, true, false, not, List, [], ◌∷◌, ℕ, ◌<◌, length, drop, get_or}
 use Rattle.std.proofs.Math.Path.{refl}
 use Rattle.std.proofs.Common.{sym, ◌∙◌, not-suc-le-zero, arith}
-use Rattle.std.proofs.Math.Option.{Option, none}
+use Rattle.std.proofs.Math.Option.{none}
 use borrow.Author.Tests.{eq-eqb, ne_eqb}
 use Rattle.base.specs.Bools.{not_true, not_false, clash}
-use Rattle.meaning.specs.Ascii.{if◌then◌else◌, quote}
+use Rattle.meaning.specs.Ascii.{quote}
 use Rattle.meaning.specs.Utf8.{utf8}
 use Rattle.meaning.specs.Block.{three_quotes}
-use Rattle.meaning.specs.Reading.{Form, Reading, refused, quoted_front, block_front, characters, as_quoted, as_block, string_value, reading}
-use Rattle.meaning.specs.Answers.{Answer, answer}
+use Rattle.meaning.specs.Reading.{quoted_front, block_front, characters, as_quoted, as_block, string_value}
+use Rattle.meaning.specs.Answers.{answer}
 use Rattle.meaning.specs.Entries.{read_of, read_literal}
 
 module _ (text out : List ℕ) where

@@ -1,5 +1,6 @@
 // One string literal, read into lent memory.
 #![tactic(auto)]
+
 ghost use Rattle.std.specs.Prelude.{◌≡◌};
 ghost use Rattle.meaning.specs.Answers.{reading_answer};
 ghost use Rattle.meaning.specs.Entries.{read_literal};
