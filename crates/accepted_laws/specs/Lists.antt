@@ -1,6 +1,6 @@
 -- In an accepted table every list type holds a type: its row has one slot, for a type, and the first child is the next node.
-use Rattle.std.specs.Prelude.{◌≡◌, refl, Bool, true, false, ◌&&◌, List, [], ◌∷◌, ltb}
-use Rattle.std.proofs.Common.{ap, ◌∙◌, arith, lt-ltb, le-ltb}
+use Rattle.std.specs.Prelude.{◌≡◌, refl, true, List, [], ◌∷◌}
+use Rattle.std.proofs.Common.{ap, arith, le-ltb}
 use Prim.Native.Nat.{ℕ, zero, suc, ◌+◌, ◌-◌, ◌≤◌, ◌<◌}
 use Rattle.std.proofs.Math.Decide.{dec_lt}
 use Rattle.base.specs.Bools.{clash, and_left}

@@ -1,13 +1,12 @@
 -- The Document's children are definitions: each sibling from node 1 on is of a kind from 1 to 17.
-use Rattle.std.specs.Prelude.{◌≡◌, refl, Bool, true, false, ◌&&◌, List, [], ◌∷◌, ℕ, zero, suc, ◌+◌, ◌-◌, ◌≤◌, ◌<◌, leb}
+use Rattle.std.specs.Prelude.{◌≡◌, true, List, [], ◌∷◌, ℕ, zero, suc, ◌-◌, ◌≤◌, ◌<◌, leb}
 use Rattle.std.proofs.Common.{arith, leb-true}
 use Rattle.base.specs.Bools.{and_left, and_right}
-use Rattle.meaning.specs.Kind
-use Rattle.meaning.specs.Table.{nodes, kind_at, variant_at, end_at, siblings, children_at}
+use Rattle.meaning.specs.Table.{kind_at, end_at, siblings, children_at}
 use Rattle.meaning.specs.Children.{definition, is_in, any, row_of}
 use Rattle.meaning.specs.Refusals.{node_in, Accepted}
 use Rattle.tree_laws.specs.Forest.{Range}
-use Rattle.accepted_laws.specs.Shape.{accepted_shaped, accepted_some_node, accepted_document}
+use Rattle.accepted_laws.specs.Shape.{accepted_some_node, accepted_document}
 use Rattle.accepted_laws.specs.Inside.{Each, filled_each, listed, no_children_fault, first_sibling}
 
 abbrev IsDefinition : List ℕ → ℕ → Type 0

@@ -1,16 +1,15 @@
 -- One number after the other: a stage refuses at the first node with its fault, or leaves the answer to the next stage and tells it that
 -- no node has the fault.
-use Rattle.std.specs.Prelude.{◌≡◌, refl, Bool, true, false, not, List, ℕ, suc, ◌*◌, ◌/◌, ◌%◌, ◌≤◌, ◌<◌, ltb, eqb, length}
+use Rattle.std.specs.Prelude.{◌≡◌, refl, Bool, true, false, not, List, ℕ, suc, ◌/◌, ◌%◌, ◌≤◌, ◌<◌, ltb, eqb, length}
 use Rattle.std.proofs.Common.{sym, ◌∙◌, ap}
 use native.Mathlib.Omega.{arith}
-use borrow.Author.Tests.{lt-ltb, le-ltb, ltb-false, eqb-true, eq-eqb, ne_eqb}
+use borrow.Author.Tests.{lt-ltb, le-ltb, ltb-false, eq-eqb, ne_eqb}
 use Rattle.std.proofs.Math.Bool.{or-false}
-use Rattle.base.specs.Bools.{or_left_false, or_right_false, not_false}
-use Rattle.meaning.specs.Ascii.{if◌then◌else◌}
-use Rattle.meaning.specs.First.{first, IsFirst}
+use Rattle.base.specs.Bools.{or_left_false, or_right_false}
+use Rattle.meaning.specs.First.{first}
 use Rattle.meaning.specs.Table.{nodes}
-use Rattle.meaning.specs.Refusals.{size_fault, node_fault, nesting_fault, depth_fault, children_fault, text_fault, has_fault, lowest_from, verdict}
-use Rattle.meaning.specs.Answers.{Answer, answer}
+use Rattle.meaning.specs.Refusals.{size_fault, node_fault, nesting_fault, depth_fault, children_fault, text_fault, has_fault, lowest_from}
+use Rattle.meaning.specs.Answers.{answer}
 use Rattle.meaning.specs.Settings.{Settings, document_levels, settings_fault}
 use Rattle.meaning.specs.Entries.{verdict_answer, checked_table, checked_document}
 use Rattle.table_laws.specs.First.{first_is_first}
@@ -18,8 +17,8 @@ use Rattle.nodes.specs.Counted.{Counted}
 use Rattle.nodes.specs.Sound.{Sound, sound}
 use Rattle.nesting.specs.Links.{EndsWithin}
 use Rattle.depth.specs.Ends.{ProperEnds}
-use Rattle.children.specs.Shaped.{Nodes, Shaped}
-use Rattle.texts.specs.Known.{KnownText, KnownTexts}
+use Rattle.children.specs.Shaped.{Shaped}
+use Rattle.texts.specs.Known.{KnownTexts}
 
 -- what the first stage leaves to the later ones
 pub record Ready (w p : List ℕ) (n : ℕ) : Type 0 where

@@ -1,5 +1,6 @@
 // Any table gets an answer: refusals 2 to 7 of document 01, the lowest number first, at the smallest node.
 #![tactic(auto)]
+
 ghost use Rattle.std.specs.Prelude.{◌≡◌};
 ghost use Rattle.meaning.specs.Settings.{settings};
 ghost use Rattle.meaning.specs.Refusals.{size_fault, lowest_from};

@@ -1,16 +1,13 @@
 -- The column of a node, by its kind's column of a variant other than 0: only a NamedType has another.
 use Prim.Native.Nat.{ℕ, ◌+◌, ◌<◌}
-use mathlib.Core.Path.{◌≡◌, refl}
-use mathlib.Core.Bool.{Bool, true, false, ◌&&◌}
-use mathlib.Core.List.{List}
-use native.Mathlib.Decide.{dec_lt}
-use native.Mathlib.Omega.{arith}
-use lib.Dec.{eqb, ltb}
-use lib.ListN.{length, get_or, set}
-use lib.Seq.{get_or-set_same, get_or-set_other}
+use Rattle.std.proofs.Math.Path.{◌≡◌}
+use Rattle.std.specs.Prelude.{refl, List, ltb, length, set}
+use Rattle.std.proofs.Math.Decide.{dec_lt}
+use Rattle.std.proofs.Common.{arith}
+use Rattle.std.proofs.Math.ListN.{get_or}
+use Rattle.std.proofs.Math.Seq.{get_or-set_same, get_or-set_other}
 use borrow.Author.Tests.{ne_eqb, ltb-true}
-use Rattle.base.specs.Bools.{and_false}
-use Rattle.base.specs.Finite.{all, below}
+use Rattle.base.specs.Finite.{below}
 use Rattle.meaning.specs.Kind
 use Rattle.children.specs.States.{column_of, end_column}
 

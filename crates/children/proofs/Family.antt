@@ -1,13 +1,13 @@
 -- The children of a node, one after the other: with each node ending after its start, fuel is never short.
 use Prim.Native.Nat.{ℕ, zero, suc, ◌+◌, ◌-◌, ◌≤◌, ◌<◌}
-use mathlib.Core.Path.{◌≡◌, refl, sym, ◌∙◌, ap}
-use mathlib.Core.Bool.{Bool, not, ◌&&◌, ◌||◌}
+use Rattle.std.proofs.Math.Path.{◌≡◌, refl, ◌∙◌, ap}
+use Rattle.std.proofs.Common.{sym, arith, lt-ltb, le-ltb, le-leb}
+use Rattle.std.specs.Prelude.{Bool, not, leb}
+use Rattle.std.proofs.Math.Bool.{◌&&◌, ◌||◌}
 use mathlib.Core.List.{List, [], ◌∷◌}
-use native.Mathlib.Nat.{le_refl}
-use native.Mathlib.Omega.{arith}
-use native.Mathlib.Decide.{dec_le}
-use lib.Dec.{leb}
-use borrow.Author.Tests.{lt-ltb, le-ltb, le-leb, lt-leb}
+use Rattle.std.proofs.Math.Nat.{le_refl}
+use Rattle.std.proofs.Math.Decide.{dec_le}
+use Rattle.std.proofs.lemmas.Bool.{lt-leb}
 use Rattle.meaning.specs.Table.{kind_at, variant_at, end_at, siblings, children_at}
 use Rattle.meaning.specs.Refusals.{node_in, is_empty, is_extension, not_as_listed}
 use Rattle.children.specs.Shaped.{Nodes, Shaped, from}

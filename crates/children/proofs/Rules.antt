@@ -1,10 +1,9 @@
 -- The rule of the table of states: what a table says and what it has to say are computed for every state, kind and variant, and are the same.
 use Prim.Native.Nat.{ℕ, zero, suc, ◌+◌, ◌<◌}
-use mathlib.Core.Path.{◌≡◌, refl, sym, ◌∙◌, ap, fun_ext}
-use mathlib.Core.Bool.{Bool, true}
-use mathlib.Core.List.{List}
-use lib.Dec.{ltb, eqb, eqb-suc-zero}
-use borrow.Author.Tests.{ltb-true}
+use Rattle.std.proofs.Math.Path.{◌≡◌, ◌∙◌, fun_ext}
+use Rattle.std.specs.Prelude.{refl, Bool, true, List, ltb, eqb}
+use Rattle.std.proofs.Common.{sym, ap, ltb-true}
+use Rattle.std.proofs.Math.Dec.{eqb-suc-zero}
 use Rattle.meaning.specs.Kind
 use Rattle.meaning.specs.Children.{Class, a, definition, selection, type, value, named_type, is_in, row_of}
 use Rattle.children.specs.Walk.{Left, left, after, done}

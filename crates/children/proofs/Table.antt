@@ -1,6 +1,5 @@
 -- The table of states is right: one computed test over all of its entries.
-use Prim.Native.Nat.{ℕ}
-use mathlib.Core.Path.{refl}
+use Rattle.std.specs.Prelude.{ℕ, refl}
 use mathlib.Core.List.{List, [], ◌∷◌}
 use Rattle.meaning.specs.Children.{is_in}
 use Rattle.children.specs.States.{state_of, column_of, Right}

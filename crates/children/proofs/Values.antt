@@ -1,10 +1,10 @@
 -- A finite rule by computing: where the values of two functions below n are computed and are one list, the functions agree there.
 use Prim.Native.Nat.{ℕ, zero, suc, ◌+◌, ◌-◌, ◌≤◌, ◌<◌}
-use mathlib.Core.Path.{◌≡◌, subst}
-use mathlib.Core.Logic.{⊎_elim}
+use Rattle.std.proofs.Math.Path.{◌≡◌}
+use Rattle.std.proofs.Common.{subst, not-suc-le-zero, arith}
+use Rattle.std.proofs.Math.Logic.{⊎_elim}
 use mathlib.Core.List.{List, [], ◌∷◌}
-use native.Mathlib.Nat.{not-suc-le-zero, le_of_suc-le-suc, eq-or-lt_of_le}
-use native.Mathlib.Omega.{arith}
+use Rattle.std.proofs.Math.Nat.{le_of_suc-le-suc, eq-or-lt_of_le}
 
 -- the values of a function below n
 abbrev pub values : {X : Type 0} → (ℕ → X) → ℕ → List X

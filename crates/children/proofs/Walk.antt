@@ -1,6 +1,7 @@
 -- The walk over children, a child at a time, agrees with `fill` over any slots and any test: each slot takes the same children in both.
-use mathlib.Core.Path.{◌≡◌, refl}
-use mathlib.Core.Bool.{Bool, true, false, ◌&&◌}
+use Rattle.std.proofs.Math.Path.{◌≡◌, refl}
+use Rattle.std.specs.Prelude.{Bool}
+use Rattle.std.proofs.Math.Bool.{true, false, ◌&&◌}
 use mathlib.Core.List.{List, [], ◌∷◌}
 use Rattle.meaning.specs.Ascii.{if◌then◌else◌}
 use Rattle.meaning.specs.Children.{Class, Slot, one, opt, any, some, fill, past}

@@ -1,5 +1,6 @@
 // Refusal 6: the children of each node are as its kind lists them, and no Variable stands in a constant place.
 #![tactic(auto)]
+
 mod states;
 
 ghost use Rattle.std.specs.Prelude.{◌≡◌, ◌&&◌, ◌+◌, ◌<◌, leb, ltb, length};

@@ -1,16 +1,16 @@
 -- The nodes above node i are those before it that end at i or later, less those that end at i; both numbers are kept from node to node.
-use mathlib.Core.Path.{◌≡◌, refl, sym, ◌∙◌, ap}
-use mathlib.Core.Logic.{⊎_elim}
-use mathlib.Core.Bool.{Bool, true, false, ◌&&◌}
-use mathlib.Core.List.{List}
+use Rattle.std.proofs.Math.Path.{◌≡◌, refl, ◌∙◌, ap}
+use Rattle.std.proofs.Common.{sym, not-suc-le-zero, add-one}
+use Rattle.std.proofs.Math.Logic.{⊎_elim}
+use Rattle.std.specs.Prelude.{Bool, true, false, List, ltb, length, set}
+use Rattle.std.proofs.Math.Bool.{◌&&◌}
 use Prim.Native.Nat.{ℕ, zero, suc, ◌+◌, ◌-◌, ◌≤◌, ◌<◌, zero-le}
-use native.Mathlib.Nat.{not-suc-le-zero, le_trans, le_refl, le_of_eq, eq-or-lt_of_le}
-use native.Mathlib.Decide.{dec_le}
-use native.Mathlib.Numerals.{add-one}
+use Rattle.std.proofs.Math.Nat.{le_trans, le_refl, le_of_eq, eq-or-lt_of_le}
+use Rattle.std.proofs.Math.Decide.{dec_le}
 use native.Mathlib.Omega.{arith}
-use lib.Dec.{leb, ltb, eqb}
-use lib.ListN.{length, get_or, set, length-set}
-use lib.Seq.{get_or-set_same, get_or-set_other}
+use Rattle.std.proofs.Math.Dec.{leb, eqb}
+use Rattle.std.proofs.Math.ListN.{get_or, length-set}
+use Rattle.std.proofs.Math.Seq.{get_or-set_same, get_or-set_other}
 use borrow.Author.Tests.{lt-ltb, le-ltb, le-leb, lt-leb, eq-eqb, ne_eqb, eqb-true, eqb-false}
 use borrow.Author.Count.{below_more}
 use Rattle.meaning.specs.Ascii.{if◌then◌else◌}

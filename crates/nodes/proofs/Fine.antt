@@ -1,16 +1,14 @@
 -- A node has no fault where the tests that are the same for all kinds find none.
-use mathlib.Core.Path.{◌≡◌, refl, sym}
-use mathlib.Core.Bool.{Bool, true, false, not, ◌&&◌, ◌||◌}
-use mathlib.Core.List.{List}
+use Rattle.std.proofs.Math.Path.{◌≡◌}
+use Rattle.std.specs.Prelude.{refl, Bool, true, false, not, List, eqb, ltb, length, set}
+use Rattle.std.proofs.Common.{arith}
+use Rattle.std.proofs.Math.Bool.{◌&&◌, ◌||◌}
 use Prim.Native.Nat.{ℕ, ◌+◌, ◌*◌, ◌≤◌, ◌<◌}
-use native.Mathlib.Decide.{dec_lt, ℕ_discrete}
-use native.Mathlib.Omega.{arith}
-use lib.Dec.{eqb, ltb, leb}
-use lib.ListN.{length, get_or, set}
-use lib.Seq.{get_or-set_same, get_or-set_other}
+use Rattle.std.proofs.Math.Decide.{dec_lt, ℕ_discrete}
+use Rattle.std.proofs.Math.ListN.{get_or}
+use Rattle.std.proofs.Math.Seq.{get_or-set_same, get_or-set_other}
 use borrow.Author.Tests.{lt-leb, le-ltb, eq-eqb, ne_eqb, ltb-true}
-use Rattle.base.specs.Bools.{clash, and_false}
-use Rattle.base.specs.Finite.{all, below}
+use Rattle.base.specs.Finite.{below}
 use Rattle.meaning.specs.Ascii.{if◌then◌else◌}
 use Rattle.meaning.specs.Kind
 use Rattle.meaning.specs.Table.{nodes, kind_at, variant_at, start_at, length_at, end_at}

@@ -1,6 +1,7 @@
 -- What a row of tests comes to where all but one of them are known.
-use mathlib.Core.Path.{◌≡◌, refl}
-use mathlib.Core.Bool.{Bool, true, false, ◌&&◌, ◌||◌}
+use Rattle.std.proofs.Math.Path.{◌≡◌}
+use Rattle.std.specs.Prelude.{refl, Bool, true, false}
+use Rattle.std.proofs.Math.Bool.{◌&&◌, ◌||◌}
 
 pub only_test : (a : Bool) → a ≡ a || false
 only_test true = refl
