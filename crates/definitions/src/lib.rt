@@ -1,5 +1,6 @@
 // The seventeen kinds of definitions and extensions, printed as serialize.rs prints them.
 #![tactic(auto)]
+
 ghost use Rattle.std.specs.Prelude.{◌≡◌, true, ◌&&◌, List, [], ◌∷◌, ◌++◌, ℕ, ◌+◌, ◌≤◌, ◌<◌};
 ghost use Rattle.meaning.specs.Ascii.{space};
 ghost use Rattle.meaning.specs.Table.{kind_at, tree_at};

@@ -1,5 +1,6 @@
 // The parts of rules that print no tree below: descriptions, aliases, literals, and words that a variant chooses.
 #![tactic(auto)]
+
 ghost use Rattle.std.specs.Prelude.{◌≡◌, true, List, [], ◌∷◌, ◌++◌, ℕ};
 ghost use Rattle.meaning.specs.Literal.{literal};
 ghost use Rattle.meaning.specs.Settings.{Settings};

@@ -15,8 +15,8 @@ a_type w i e l h =
     and_both (leb 33 (kind_at w i)) (leb (kind_at w i) 34) (le-leb 33 (kind_at w i) (omega (arith, e))) (le-leb (kind_at w i) 34 (omega (arith, e)))
 
 -- no definition is among the nodes below
-pub no-definition {ℓ} : {X : Type ℓ} (w : List ℕ) (i : ℕ) {k : ℕ} → k ≡ kind_at w i → 17 < kind_at w i → k < 18 → X
-no-definition w i e l h = absurd (omega (arith, e, l, h))
+pub no_definition {ℓ} : {X : Type ℓ} (w : List ℕ) (i : ℕ) {k : ℕ} → k ≡ kind_at w i → 17 < kind_at w i → k < 18 → X
+no_definition w i e l h = absurd (omega (arith, e, l, h))
 
 pub past_all : (w : List ℕ) (i : ℕ) {k : ℕ} → k ≡ kind_at w i → 44 ≤ k → (k ≡ 44 → ⊥) → 45 ≤ kind_at w i
 past_all w i e l n = omega (arith, e, l, n)

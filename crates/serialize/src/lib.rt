@@ -33,7 +33,7 @@ const OBJECT_FIELD: usize = 44;
 // ---- lists of children
 
 // The next child, whatever its kind.
-#[cycle(argument_arguments_arguments_def_commas_curly_default_directive_directives_each_enum_value_field_field_def_inline_input_list_object_one_opt_braces_serialize_impl_signature_spread_value_variable)]
+#[cycle(tree)]
 pub fn one(
     words: &[u32],
     pool: &[u8],
@@ -63,7 +63,7 @@ pub fn one(
 }
 
 // The next children of the class, each after the gap.
-#[cycle(argument_arguments_arguments_def_commas_curly_default_directive_directives_each_enum_value_field_field_def_inline_input_list_object_one_opt_braces_serialize_impl_signature_spread_value_variable)]
+#[cycle(tree)]
 pub fn each(
     words: &[u32],
     pool: &[u8],
@@ -89,7 +89,7 @@ pub fn each(
 }
 
 // `[a, b, c]` or, with breaks on, each on a line of its own with a comma after the last: `comma_separated` of serialize.rs.
-#[cycle(argument_arguments_arguments_def_commas_curly_default_directive_directives_each_enum_value_field_field_def_inline_input_list_object_one_opt_braces_serialize_impl_signature_spread_value_variable)]
+#[cycle(tree)]
 fn commas(
     words: &[u32],
     pool: &[u8],
@@ -133,7 +133,7 @@ fn commas(
 }
 
 // `{ a b c }` or, with breaks on, each on a line of its own: `curly_brackets_space_separated` of serialize.rs.
-#[cycle(argument_arguments_arguments_def_commas_curly_default_directive_directives_each_enum_value_field_field_def_inline_input_list_object_one_opt_braces_serialize_impl_signature_spread_value_variable)]
+#[cycle(tree)]
 pub fn curly(
     words: &[u32],
     pool: &[u8],
@@ -171,7 +171,7 @@ pub fn curly(
 }
 
 // A space and the children of the class in braces, where there are any.
-#[cycle(argument_arguments_arguments_def_commas_curly_default_directive_directives_each_enum_value_field_field_def_inline_input_list_object_one_opt_braces_serialize_impl_signature_spread_value_variable)]
+#[cycle(tree)]
 pub fn opt_braces(
     words: &[u32],
     pool: &[u8],
@@ -195,7 +195,7 @@ pub fn opt_braces(
 }
 
 // Arguments or variables in parentheses, on one line, where there are any.
-#[cycle(argument_arguments_arguments_def_commas_curly_default_directive_directives_each_enum_value_field_field_def_inline_input_list_object_one_opt_braces_serialize_impl_signature_spread_value_variable)]
+#[cycle(tree)]
 pub fn arguments(
     words: &[u32],
     pool: &[u8],
@@ -231,7 +231,7 @@ pub fn arguments(
 }
 
 // The directives, each after a space. Mostly there is none: the test stands apart from the walk, so that a caller is spared the call.
-#[cycle(argument_arguments_arguments_def_commas_curly_default_directive_directives_each_enum_value_field_field_def_inline_input_list_object_one_opt_braces_serialize_impl_signature_spread_value_variable)]
+#[cycle(tree)]
 pub fn directives(
     words: &[u32],
     pool: &[u8],
@@ -266,7 +266,7 @@ pub fn directives(
 }
 
 // Argument definitions in parentheses, on one line unless one has a description or a directive.
-#[cycle(argument_arguments_arguments_def_commas_curly_default_directive_directives_each_enum_value_field_field_def_inline_input_list_object_one_opt_braces_serialize_impl_signature_spread_value_variable)]
+#[cycle(tree)]
 fn signature(
     words: &[u32],
     pool: &[u8],
@@ -290,7 +290,7 @@ fn signature(
 }
 
 // The same, where there are any.
-#[cycle(argument_arguments_arguments_def_commas_curly_default_directive_directives_each_enum_value_field_field_def_inline_input_list_object_one_opt_braces_serialize_impl_signature_spread_value_variable)]
+#[cycle(tree)]
 pub fn arguments_def(
     words: &[u32],
     pool: &[u8],
@@ -314,7 +314,7 @@ pub fn arguments_def(
 // ---- a node of each kind
 
 // ` = value`, where there is a value.
-#[cycle(argument_arguments_arguments_def_commas_curly_default_directive_directives_each_enum_value_field_field_def_inline_input_list_object_one_opt_braces_serialize_impl_signature_spread_value_variable)]
+#[cycle(tree)]
 fn default(
     words: &[u32],
     pool: &[u8],
@@ -336,7 +336,7 @@ fn default(
     at
 }
 
-#[cycle(argument_arguments_arguments_def_commas_curly_default_directive_directives_each_enum_value_field_field_def_inline_input_list_object_one_opt_braces_serialize_impl_signature_spread_value_variable)]
+#[cycle(tree)]
 fn directive(
     words: &[u32],
     pool: &[u8],
@@ -360,7 +360,7 @@ fn directive(
 }
 
 // An argument, or a field of an object value.
-#[cycle(argument_arguments_arguments_def_commas_curly_default_directive_directives_each_enum_value_field_field_def_inline_input_list_object_one_opt_braces_serialize_impl_signature_spread_value_variable)]
+#[cycle(tree)]
 fn argument(
     words: &[u32],
     pool: &[u8],
@@ -381,7 +381,7 @@ fn argument(
     one(words, pool, table, to, depth, prefix, state, out, b)
 }
 
-#[cycle(argument_arguments_arguments_def_commas_curly_default_directive_directives_each_enum_value_field_field_def_inline_input_list_object_one_opt_braces_serialize_impl_signature_spread_value_variable)]
+#[cycle(tree)]
 fn variable(
     words: &[u32],
     pool: &[u8],
@@ -406,7 +406,7 @@ fn variable(
 }
 
 // An InputValueDefinition.
-#[cycle(argument_arguments_arguments_def_commas_curly_default_directive_directives_each_enum_value_field_field_def_inline_input_list_object_one_opt_braces_serialize_impl_signature_spread_value_variable)]
+#[cycle(tree)]
 fn input(
     words: &[u32],
     pool: &[u8],
@@ -431,7 +431,7 @@ fn input(
 }
 
 // A FieldDefinition.
-#[cycle(argument_arguments_arguments_def_commas_curly_default_directive_directives_each_enum_value_field_field_def_inline_input_list_object_one_opt_braces_serialize_impl_signature_spread_value_variable)]
+#[cycle(tree)]
 fn field_def(
     words: &[u32],
     pool: &[u8],
@@ -455,7 +455,7 @@ fn field_def(
     directives(words, pool, table, to, depth, prefix, state, out, e)
 }
 
-#[cycle(argument_arguments_arguments_def_commas_curly_default_directive_directives_each_enum_value_field_field_def_inline_input_list_object_one_opt_braces_serialize_impl_signature_spread_value_variable)]
+#[cycle(tree)]
 fn enum_value(
     words: &[u32],
     pool: &[u8],
@@ -476,7 +476,7 @@ fn enum_value(
     directives(words, pool, table, to, depth, prefix, state, out, b)
 }
 
-#[cycle(argument_arguments_arguments_def_commas_curly_default_directive_directives_each_enum_value_field_field_def_inline_input_list_object_one_opt_braces_serialize_impl_signature_spread_value_variable)]
+#[cycle(tree)]
 fn field(
     words: &[u32],
     pool: &[u8],
@@ -512,7 +512,7 @@ fn field(
     )
 }
 
-#[cycle(argument_arguments_arguments_def_commas_curly_default_directive_directives_each_enum_value_field_field_def_inline_input_list_object_one_opt_braces_serialize_impl_signature_spread_value_variable)]
+#[cycle(tree)]
 fn spread(
     words: &[u32],
     pool: &[u8],
@@ -533,7 +533,7 @@ fn spread(
     directives(words, pool, table, to, depth, prefix, state, out, b)
 }
 
-#[cycle(argument_arguments_arguments_def_commas_curly_default_directive_directives_each_enum_value_field_field_def_inline_input_list_object_one_opt_braces_serialize_impl_signature_spread_value_variable)]
+#[cycle(tree)]
 fn inline(
     words: &[u32],
     pool: &[u8],
@@ -567,7 +567,7 @@ fn inline(
     )
 }
 
-#[cycle(argument_arguments_arguments_def_commas_curly_default_directive_directives_each_enum_value_field_field_def_inline_input_list_object_one_opt_braces_serialize_impl_signature_spread_value_variable)]
+#[cycle(tree)]
 fn list(
     words: &[u32],
     pool: &[u8],
@@ -598,7 +598,7 @@ fn list(
     )
 }
 
-#[cycle(argument_arguments_arguments_def_commas_curly_default_directive_directives_each_enum_value_field_field_def_inline_input_list_object_one_opt_braces_serialize_impl_signature_spread_value_variable)]
+#[cycle(tree)]
 fn object(
     words: &[u32],
     pool: &[u8],
@@ -629,7 +629,7 @@ fn object(
     )
 }
 
-#[cycle(argument_arguments_arguments_def_commas_curly_default_directive_directives_each_enum_value_field_field_def_inline_input_list_object_one_opt_braces_serialize_impl_signature_spread_value_variable)]
+#[cycle(tree)]
 fn value(
     words: &[u32],
     pool: &[u8],
@@ -660,7 +660,7 @@ fn value(
 }
 
 // Any node below a definition: the parts of its kind's rule.
-#[cycle(argument_arguments_arguments_def_commas_curly_default_directive_directives_each_enum_value_field_field_def_inline_input_list_object_one_opt_braces_serialize_impl_signature_spread_value_variable)]
+#[cycle(tree)]
 pub fn serialize_impl(
     words: &[u32],
     pool: &[u8],

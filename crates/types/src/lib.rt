@@ -1,5 +1,6 @@
 // Types: `Int`, `[Int!]!`.
 #![tactic(auto)]
+
 ghost use Rattle.meaning.specs.Settings.{Settings};
 ghost use Rattle.meaning.specs.Table.{tree_at};
 ghost use Rattle.meaning.specs.Layout.{node_text};

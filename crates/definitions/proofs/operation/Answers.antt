@@ -1,0 +1,36 @@
+-- `definitions::operation` meets its contract: the parts of its rule, one after the other.
+use Rattle.definitions.specs.Segments.{body, did_separated, parts_kept, parts_walked}
+use Rattle.serialize.specs.Parts.{Parts, jobs_kept, jobs_walked, did_one, did_spaced, did_braces}
+use Rattle.layout.specs.Did.{◌⨾◌, did_tokens, did_name, a_child, no_child, node_written}
+use Rattle.layout.specs.Jobs.{rest_within, rest_ranged, here}
+use Rattle.layout.specs.Written.{kept_none, kept_as}
+use Rattle.pen.specs.Wrote.{wrote_length}
+use Rattle.meaning.specs.Rules.{token, sp, separated, child, rule_of}
+use Rattle.meaning.specs.Children.{a, type, named_type, selection}
+use Rattle.meaning.specs.Settings.{default_settings}
+use Rattle.meaning.specs.Ascii.{ascii}
+use Rattle.std.proofs.Common.{arith, sym, ap}
+use Prim.Native.Nat.{◌+◌, ◌-◌}
+use mathlib.Core.List.{List, [], ◌∷◌, ◌++◌}
+use Rattle.std.proofs.Math.Path.{◌≡◌, ◌∙◌}
+use Rattle.std.specs.Prelude.{refl}
+use Rattle.definitions.proofs.operation.Goals as goal
+
+pub operation_type-a-requires : goal.operation_type-a-requires
+operation_type-a-requires c = c.requires.text.node
+
+pub if_named-b-requires : goal.if_named-b-requires
+if_named-b-requires c = c.requires.text
+
+pub arguments-c-requires : goal.arguments-c-requires
+arguments-c-requires c = jobs_walked (jobs_walked c.requires.jobs (c.operation_type-a.ensures _ default_settings _).walked) (c.if_named-b.ensures default_settings _ (sp) refl refl).walked
+
+pub tail-requires : goal.tail-requires
+tail-requires c = jobs_walked (jobs_walked (jobs_walked c.requires.jobs (c.operation_type-a.ensures _ default_settings _).walked) (c.if_named-b.ensures default_settings _ (sp) refl refl).walked) (c.arguments-c.ensures 0).walked
+
+pub returns : goal.returns
+unfolding rule_of
+returns c = c.operation_type-a.ensures _ _ _ ⨾ c.if_named-b.ensures _ _ (sp) refl refl ⨾ c.arguments-c.ensures _ ⨾ c.tail.ensures _
+
+pub shape_of-out : goal.shape_of-out
+shape_of-out c = wrote_length (returns c).walked.wrote

@@ -1,0 +1,33 @@
+-- `definitions::schema` meets its contract: the parts of its rule, one after the other.
+use Rattle.definitions.specs.Segments.{body, did_separated, parts_kept, parts_walked}
+use Rattle.serialize.specs.Parts.{Parts, jobs_kept, jobs_walked, did_one, did_spaced, did_braces}
+use Rattle.layout.specs.Did.{◌⨾◌, did_tokens, did_name, a_child, no_child, node_written}
+use Rattle.layout.specs.Jobs.{rest_within, rest_ranged, here}
+use Rattle.layout.specs.Written.{kept_none, kept_as}
+use Rattle.pen.specs.Wrote.{wrote_length}
+use Rattle.meaning.specs.Rules.{token, sp, separated, child, rule_of}
+use Rattle.meaning.specs.Children.{a, type, named_type, selection}
+use Rattle.meaning.specs.Settings.{default_settings}
+use Rattle.meaning.specs.Ascii.{ascii}
+use Rattle.std.proofs.Common.{arith, sym, ap}
+use Prim.Native.Nat.{◌+◌, ◌-◌}
+use mathlib.Core.List.{List, [], ◌∷◌, ◌++◌}
+use Rattle.std.proofs.Math.Path.{◌≡◌, ◌∙◌}
+use Rattle.std.specs.Prelude.{refl}
+use Rattle.definitions.proofs.schema.Goals as goal
+
+pub serialize_description-a-requires : goal.serialize_description-a-requires
+serialize_description-a-requires c = (rest_ranged c.requires.jobs.rest, c.requires.jobs.table)
+
+pub directives-c-requires : goal.directives-c-requires
+directives-c-requires c = here (jobs_kept (jobs_walked c.requires.jobs (c.serialize_description-a.ensures 0).walked) c.token-b.ensures)
+
+pub curly-requires : goal.curly-requires
+curly-requires c = jobs_kept (jobs_walked (jobs_kept (jobs_walked c.requires.jobs (c.serialize_description-a.ensures 0).walked) c.token-b.ensures) c.directives-c.ensures) c.token-d.ensures
+
+pub returns : goal.returns
+unfolding rule_of
+returns c = c.serialize_description-a.ensures _ ⨾ did_tokens (token "schema") refl c.token-b.ensures ⨾ did_spaced _ c.directives-c.ensures ⨾ did_tokens (sp) refl c.token-d.ensures ⨾ did_braces _ c.curly.ensures
+
+pub shape_of-out : goal.shape_of-out
+shape_of-out c = wrote_length (returns c).walked.wrote

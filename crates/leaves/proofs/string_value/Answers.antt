@@ -1,0 +1,9 @@
+-- `leaves::string_value` meets its contract: the literal of the text.
+use Rattle.meaning.specs.Literal.{literal}
+use Rattle.pen.specs.Wrote.{wrote_as}
+use Rattle.std.specs.Prelude.{refl}
+use Rattle.std.proofs.Common.{ap, rules}
+use Rattle.leaves.proofs.string_value.Goals as goal
+
+pub returns : goal.returns
+returns c = record { wrote = wrote_as c.serialize_string_value-p.ensures (ap (literal _ _) c.text.ensures); node = refl }
