@@ -1,10 +1,11 @@
 // Replays the vectors of documents, which come on standard input: each table is printed and compared with the text that stands
 // beside it. It writes what was counted, and the first line that fails.
 #![tactic(auto)]
+
 ghost use Rattle.std.specs.Prelude.{◌≡◌, min};
 
-use libc::{STDIN_FILENO, STDOUT_FILENO};
 use meaning::{Printed, Refusal};
+use std::io::{self, Read};
 use vector_lines::{Decoded, Listed, Number};
 
 // Stands in no UTF-8 text, so that a byte that is written shows.
@@ -301,34 +302,34 @@ fn replay(input: &[u8]) -> Tally {
     tally
 }
 
-fn say(n: u64, words: &[u8]) {
-    io::print_decimal(STDOUT_FILENO, n);
-    io::write_all(STDOUT_FILENO, words);
+fn say(rt: &impl Print, n: u64, words: &[u8]) -> io::Result<()> {
+    print!(rt; "{n}")?;
+    rt.write_all(words)
 }
 
-fn report(t: Tally) {
-    say(t.documents, b" documents, ");
-    say(t.empty, b" of them empty: ");
-    say(t.printed, b" printed, ");
-    say(t.short, b" refused one byte short, ");
-    say(t.roomless, b" refused with no room, ");
-    say(t.kept, b" kept the bytes past them\n");
+fn report(rt: &impl Print, t: Tally) -> io::Result<()> {
+    say(rt, t.documents, b" documents, ")?;
+    say(rt, t.empty, b" of them empty: ")?;
+    say(rt, t.printed, b" printed, ")?;
+    say(rt, t.short, b" refused one byte short, ")?;
+    say(rt, t.roomless, b" refused with no room, ")?;
+    say(rt, t.kept, b" kept the bytes past them\n")?;
     if t.failed != 0 {
-        io::write_all(STDOUT_FILENO, b"first failure: line ");
-        say(t.failed, b"\n");
+        rt.write_all(b"first failure: line ")?;
+        say(rt, t.failed, b"\n")?;
     }
     if t.damaged != 0 {
-        io::write_all(STDOUT_FILENO, b"first damage: line ");
-        say(t.damaged, b"\n");
+        rt.write_all(b"first damage: line ")?;
+        say(rt, t.damaged, b"\n")?;
     }
+    Ok(())
 }
 
-fn main() {
-    let mut input = [0u8; 524288];
-    let n = io::read_full(STDIN_FILENO, &mut input);
-    if n == 524288 {
-        io::write_all(STDOUT_FILENO, b"the vectors do not fit\n");
-        return;
+fn main(rt: HostRuntime) -> io::Result<()> {
+    let mut input = Vec::new(rt.alloc());
+    rt.reader().take(524288).read_to_end(&mut input)?;
+    if input.len() == 524288 {
+        return rt.write_all(b"the vectors do not fit\n");
     }
-    report(replay(&input[..n]));
+    report(&rt, replay(&input))
 }
