@@ -1,37 +1,37 @@
 // The digest job: a table file comes on standard input; the digest of its archive text, and how many bytes that has, go to standard output.
 // A refusal writes nothing there, and its number and place to standard error.
 #![tactic(auto)]
-use libc::{STDERR_FILENO, STDIN_FILENO, STDOUT_FILENO};
 
-fn refused(number: u64, place: u64) {
-    io::write_all(STDERR_FILENO, b"refused with ");
-    io::print_decimal(STDERR_FILENO, number);
-    io::write_all(STDERR_FILENO, b" at ");
-    io::print_decimal(STDERR_FILENO, place);
-    io::write_all(STDERR_FILENO, b"\n");
+use std::io;
+
+fn refused(rt: &impl Eprint, number: u64, place: u64) -> io::Result<()> {
+    eprint!(rt; "refused with {number} at {place}\n")
 }
 
-fn tell(text: &[u8]) {
-    io::print_hex(STDOUT_FILENO, digest::digest(text), 16);
-    io::write_all(STDOUT_FILENO, b" ");
-    io::print_decimal(STDOUT_FILENO, text.len() as u64);
-    io::write_all(STDOUT_FILENO, b" bytes\n");
+fn tell(rt: &impl Print, text: &[u8]) -> io::Result<()> {
+    let digest = digest::digest(text);
+    let length = text.len();
+    print!(rt; "{digest:016x} {length} bytes\n")
 }
 
-fn digest_file(file: &[u8], words: &mut [u32], out: &mut [u8]) {
+fn digest_file<R: Print + Eprint>(
+    rt: &R,
+    file: &[u8],
+    words: &mut [u32],
+    out: &mut [u8],
+) -> io::Result<()> {
     let archived = archive::print_archive(file, words, out);
     if archived.number != 0 {
-        refused(archived.number, archived.place);
-        return;
+        return refused(rt, archived.number, archived.place);
     }
-    tell(archive::text(out, archived.length));
+    tell(rt, archive::text(out, archived.length))
 }
 
 // The longest file that is looked at, and a byte more; the words of 8,192 nodes; the longest text.
-fn main() {
+fn main(rt: HostRuntime) -> io::Result<()> {
     let mut file = [0u8; 229_393];
     let mut words = [0u32; 40_960];
     let mut out = [0u8; 1_048_576];
-    let n = io::read_full(STDIN_FILENO, &mut file);
-    digest_file(&file[..n], &mut words, &mut out);
+    let n = input::read_full(&mut rt.reader(), &mut file)?;
+    digest_file(&rt, &file[..n], &mut words, &mut out)
 }

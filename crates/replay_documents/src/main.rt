@@ -5,7 +5,7 @@
 ghost use Rattle.std.specs.Prelude.{◌≡◌, min};
 
 use meaning::{Printed, Refusal};
-use std::io::{self, Read};
+use std::io;
 use vector_lines::{Decoded, Listed, Number};
 
 // Stands in no UTF-8 text, so that a byte that is written shows.
@@ -326,10 +326,10 @@ fn report(rt: &impl Print, t: Tally) -> io::Result<()> {
 }
 
 fn main(rt: HostRuntime) -> io::Result<()> {
-    let mut input = Vec::new(rt.alloc());
-    rt.reader().take(524288).read_to_end(&mut input)?;
-    if input.len() == 524288 {
+    let mut input = [0u8; 524288];
+    let n = input::read_full(&mut rt.reader(), &mut input)?;
+    if n == 524288 {
         return rt.write_all(b"the vectors do not fit\n");
     }
-    report(&rt, replay(&input))
+    report(&rt, replay(&input[..n]))
 }

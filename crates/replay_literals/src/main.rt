@@ -5,7 +5,7 @@
 ghost use Rattle.std.specs.Prelude.{◌≡◌, min};
 
 use meaning::{Form, Printed, Reading, Refusal};
-use std::io::{self, Read};
+use std::io;
 use vector_lines::{Decoded, Number};
 
 // Stands in no UTF-8 text, so that a byte that is written shows.
@@ -365,10 +365,10 @@ fn report(rt: &impl Print, t: Tally) -> io::Result<()> {
 }
 
 fn main(rt: HostRuntime) -> io::Result<()> {
-    let mut input = Vec::new(rt.alloc());
-    rt.reader().take(262144).read_to_end(&mut input)?;
-    if input.len() == 262144 {
+    let mut input = [0u8; 262144];
+    let n = input::read_full(&mut rt.reader(), &mut input)?;
+    if n == 262144 {
         return rt.write_all(b"the vectors do not fit\n");
     }
-    report(&rt, replay(&input))
+    report(&rt, replay(&input[..n]))
 }

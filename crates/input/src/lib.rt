@@ -1,0 +1,20 @@
+// Standard input, or any other reader, read into lent memory.
+#![tactic(auto)]
+ghost use Rattle.std.specs.Prelude.{◌≤◌, IfOk, length};
+
+use std::io::{self, Read};
+
+// Reads until `buf` is full or nothing is left, and says how many bytes came.
+pub fn read_full<R: Read>(reader: &mut R, buf: &mut [u8]) -> io::Result<usize>
+    ensures { IfOk result (λ n. n ≤ length buf.new) }
+{
+    let mut n = 0;
+    while n < buf.len() {
+        let k = reader.read(&mut buf[n..])?;
+        if k == 0 {
+            return Ok(n);
+        }
+        n += k;
+    }
+    Ok(n)
+}
