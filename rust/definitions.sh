@@ -23,7 +23,7 @@ rm -rf "$said"
 mkdir -p "$said" || fail "$said cannot be made"
 scratch=$(mktemp -d) || fail "no folder for the theorems"
 trap 'rm -rf "$scratch"' EXIT
-trap 'exit 1' HUP INT TERM
+trap 'exit 1' HUP INT PIPE TERM
 mkdir -p "$scratch/crates/meaning" || fail "$scratch/crates cannot be made"
 for part in src specs proofs; do
     [ ! -d "$root/crates/meaning/$part" ] || cp -R "$root/crates/meaning/$part" "$scratch/crates/meaning/" || fail "crates/meaning cannot be copied"
