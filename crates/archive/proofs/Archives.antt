@@ -1,11 +1,10 @@
 -- The ways of archiving a file, as the code takes them.
-use mathlib.Core.Path.{◌≡◌, sym, ap, ◌∙◌}
-use mathlib.Core.List.{List}
+use Rattle.std.proofs.Math.Path.{◌≡◌, sym, ◌∙◌}
+use Rattle.std.proofs.Common.{ap, arith, length-take, lt-ltb, le-ltb}
+use Rattle.std.specs.Prelude.{List, length}
 use Prim.Native.Nat.{ℕ, ◌-◌, ◌≤◌, ◌<◌}
-use native.Mathlib.Omega.{arith}
-use lib.ListN.{length, take, drop, length-take, length-drop}
-use lib.Seq.{take_all}
-use borrow.Author.Tests.{lt-ltb, le-ltb}
+use Rattle.std.proofs.Math.ListN.{take, drop, length-drop}
+use Rattle.std.proofs.Math.Seq.{take_all}
 use Rattle.meaning.specs.Settings.{default_settings}
 use Rattle.meaning.specs.Answers.{Answer, answer}
 use Rattle.meaning.specs.Entries.{printed_document}

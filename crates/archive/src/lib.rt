@@ -1,5 +1,6 @@
 // What the archive exporter and the digest job print: a table file's document, with the default settings.
 #![tactic(auto)]
+
 ghost use Rattle.std.specs.Prelude.{◌≡◌, take};
 ghost use Rattle.meaning.specs.Answers.{answer, printed_answer};
 ghost use Rattle.archive.specs.Archive.{archived_answer, too_long_number, archived};

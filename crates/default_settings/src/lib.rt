@@ -1,5 +1,6 @@
 // Printing with document 01's default settings.
 #![tactic(auto)]
+
 ghost use Rattle.std.specs.Prelude.{◌≡◌};
 ghost use Rattle.meaning.specs.Settings.{default_settings};
 ghost use Rattle.meaning.specs.Answers.{printed_answer};

@@ -1,0 +1,6 @@
+-- The three numbers of the answer.
+use Rattle.std.proofs.Common.{rules}
+use Rattle.archive.proofs.printed.Goals as goal
+
+pub returns : goal.returns
+returns c = rw (c.printed_number.ensures, c.printed_place.ensures, c.printed_length.ensures)
