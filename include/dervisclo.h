@@ -1,7 +1,7 @@
 /*
  * GraphQL documents and string literals, printed in memory that the caller lends; literals read; node tables checked.
  *
- * Link libgateway.a, which `rt staticlib gateway` proves and writes to target/staticlib. It is for x86-64.
+ * Link libgateway.a, which `tools/library` has proved and writes to target/staticlib. It is for x86-64.
  *
  * All functions answer 0 on success and otherwise the number of a refusal. Those that take an output: no refusal changes
  * a byte of it; a success changes no byte past the length that it reports. They report at `length`

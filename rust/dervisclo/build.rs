@@ -1,4 +1,4 @@
-//! Links the static library `libgateway.a`, which `rt staticlib gateway` proves and writes to `target/staticlib`. The
+//! Links the static library `libgateway.a`, which `tools/library` has proved and writes to `target/staticlib`. The
 //! variable `DERVISCLO_LIB_DIR` names another folder that holds it; a relative path is seen from the repository's root.
 
 use std::env;
@@ -19,7 +19,7 @@ fn main() {
     println!("cargo::rerun-if-changed={}", library.display());
     if !library.is_file() {
         println!(
-            "cargo::error={} is not there: run `rt staticlib gateway` in the repository first, \
+            "cargo::error={} is not there: run `tools/library` in the repository first, \
              or name the folder that holds {LIBRARY} in {VARIABLE}",
             library.display()
         );

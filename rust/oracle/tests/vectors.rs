@@ -8,8 +8,8 @@ use oracle::run::{definitions, rows, vectors};
 use oracle::table::WORDS;
 use oracle::{crate_printer, plain_check, plain_print, plain_read, Settings};
 use std::collections::BTreeSet;
-use std::fs;
 use std::path::{Path, PathBuf};
+use std::{env, fs, process};
 
 fn directory() -> PathBuf {
     Path::new(env!("CARGO_MANIFEST_DIR")).join("../../vectors")
@@ -135,7 +135,8 @@ fn the_plain_reader_agrees_with_the_readings() {
 
 #[test]
 fn they_become_theorems_and_a_broken_line_does_not() {
-    let room = Path::new(env!("CARGO_TARGET_TMPDIR")).join("definitions");
+    // Outside the repository, where `rt ci` takes each such file for a part of a crate.
+    let room = env::temp_dir().join(format!("dervisclo-definitions-{}", process::id()));
     let theorems = definitions::write(&directory(), &room).unwrap();
     let made: usize = ["Documents", "Literals", "Refusals", "Readings"]
         .iter()
@@ -168,4 +169,5 @@ fn they_become_theorems_and_a_broken_line_does_not() {
     fs::write(broken.join("readings.txt"), "# none\n").unwrap();
     let answer = definitions::write(&broken, &room.join("crate"));
     assert!(answer.unwrap_err().ends_with("no vector to compute"));
+    fs::remove_dir_all(&room).unwrap();
 }

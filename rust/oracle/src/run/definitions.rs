@@ -31,38 +31,37 @@ const SOURCES: [Source; 4] = [
     Source {
         file: "documents.txt",
         module: "Documents",
-        uses: "use mathlib.Core.Bool.{true, false}\n\
-               use Rattle·meaning.specs.Settings.{settings}\n\
-               use Rattle·meaning.specs.Table.{treeOf}\n\
-               use Rattle·meaning.specs.Layout.{nodeText, documentText}\n\
-               use Rattle·meaning.specs.Refusals.{verdict, accepted}\n",
+        uses: "use Rattle.std.specs.Prelude.{true, false, List, ℕ}\n\
+               use Rattle.meaning.specs.Settings.{settings}\n\
+               use Rattle.meaning.specs.Table.{tree_of}\n\
+               use Rattle.meaning.specs.Layout.{node_text, document_text}\n\
+               use Rattle.meaning.specs.Refusals.{verdict, accepted}\n",
         fact: document,
     },
     Source {
         file: "literals.txt",
         module: "Literals",
-        uses: "use mathlib.Core.Bool.{true, false}\n\
-               use Rattle·meaning.specs.Settings.{settings}\n\
-               use Rattle·meaning.specs.Literal.{literal}\n",
+        uses: "use Rattle.std.specs.Prelude.{true, false}\n\
+               use Rattle.meaning.specs.Settings.{settings}\n\
+               use Rattle.meaning.specs.Literal.{literal}\n",
         fact: literal,
     },
     Source {
         file: "refusals.txt",
         module: "Refusals",
-        uses: "use Rattle·meaning.specs.Refusals.{verdict, accepted, refusal}\n",
+        uses: "use Rattle.meaning.specs.Refusals.{verdict, accepted, refusal}\n",
         fact: refusal,
     },
     Source {
         file: "readings.txt",
         module: "Readings",
-        uses: "use Rattle·meaning.specs.Reading.{reading, refused, value, quotedForm, blockForm}\n",
+        uses:
+            "use Rattle.meaning.specs.Reading.{reading, refused, value, quoted_form, block_form}\n",
         fact: reading,
     },
 ];
 
-const USES: &str = "use mathlib.Core.Path.{_≡_, refl}\n\
-                    use mathlib.Core.List.{List, [], _∷_}\n\
-                    use Prim.Native.Nat.{ℕ}\n";
+const USES: &str = "use Rattle.std.specs.Prelude.{◌≡◌, refl, [], ◌∷◌}\n";
 
 /// Writes the crate into a folder, prints how many vectors of each file it holds, and gives their sum.
 pub fn write(vectors: &Path, out: &Path) -> Result<usize, String> {
@@ -79,7 +78,7 @@ pub fn write(vectors: &Path, out: &Path) -> Result<usize, String> {
         total += written;
     }
     save(&out.join("specs/Lib.antt"), &modules)?;
-    let source = "// Nothing is run: the vectors are theorems in specs/.\n";
+    let source = "// Nothing is run: the vectors are theorems in specs/.\n#![tactic(auto)]\n";
     save(&out.join("src/lib.rt"), source)?;
     Ok(total)
 }
@@ -155,18 +154,18 @@ fn document(name: &str, fields: &[&str]) -> Option<Fact> {
     if table.len() > MOST_NODES * WORDS {
         return Some(Fact::TooLarge);
     }
-    let (w, p) = (format!("{name}-words"), format!("{name}-pool"));
+    let (w, p) = (format!("{name}_words"), format!("{name}_pool"));
     let text = list(&text);
     let parts = [
         constant(&w, &list(&table)),
         constant(&p, &list(&pool)),
         theorem(
-            &format!("{name}-text"),
-            &format!("documentText {settings} (treeOf {w} {p}) ≡ {text}"),
-            &format!("documentText treeOf nodeText {w} {p}"),
+            &format!("{name}_text"),
+            &format!("document_text {settings} (tree_of {w} {p}) ≡ {text}"),
+            &format!("document_text tree_of node_text {w} {p}"),
         ),
         theorem(
-            &format!("{name}-accepted"),
+            &format!("{name}_accepted"),
             &format!("verdict {w} {p} ≡ accepted"),
             &format!("verdict {w} {p}"),
         ),
@@ -214,8 +213,8 @@ fn reading(name: &str, fields: &[&str]) -> Option<Fact> {
     };
     let (value, text) = (list(&bytes(value)?), list(&bytes(text)?));
     let answer = match form {
-        "q" => format!("value quotedForm ({value})"),
-        "b" => format!("value blockForm ({value})"),
+        "q" => format!("value quoted_form ({value})"),
+        "b" => format!("value block_form ({value})"),
         "-" => "refused".into(),
         _ => return None,
     };

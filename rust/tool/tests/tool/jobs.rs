@@ -1,4 +1,5 @@
-//! The two customers' jobs (docs/JOBS.md), programs that `rt check` makes, against the tool: for any file the same text or the same refusal.
+//! The two customers' jobs (docs/JOBS.md), programs that `rt ci` makes, and `rt run` in their folders, against the tool: for any file the
+//! same text or the same refusal.
 
 use crate::common::{Run, finish, query_of_a, run_on, sample};
 use dervisclo::file::LONGEST;
@@ -13,10 +14,10 @@ const DIGEST_JOB: &str = "digest_job";
 /// The jobs' output is no longer.
 const LONGEST_TEXT: usize = 1 << 20;
 
-/// None where `rt check` has not made the program.
+/// None where `rt` has not made the program.
 fn job(name: &str, input: &[u8]) -> Option<Run> {
-    let programs = Path::new(env!("CARGO_MANIFEST_DIR")).join("../../target/bin");
-    let program = programs.join(name);
+    let crates = Path::new(env!("CARGO_MANIFEST_DIR")).join("../../crates");
+    let program = crates.join(name).join("out").join(name);
     if !program.exists() {
         eprintln!("{name} is not there: skipped");
         return None;
