@@ -1,20 +1,17 @@
 -- A definition's text: its selections alone where it is the first and may be shorthand, else the parts of its kind's rule.
-use Rattle.std.specs.Prelude.{◌≡◌, refl, Bool, true, false, ◌&&◌, List, [], ◌∷◌, ℕ, ◌+◌, ◌-◌, ◌≤◌, ◌<◌, eqb}
-use Rattle.std.proofs.Common.{sym, ap, subst, ◌∙◌, append-nil, arith}
+use Rattle.std.specs.Prelude.{◌≡◌, refl, Bool, true, false, ◌&&◌, List, [], ◌∷◌, ℕ, ◌+◌, ◌≤◌, eqb}
+use Rattle.std.proofs.Common.{sym, ◌∙◌, arith}
 use Rattle.std.proofs.Math.Decide.{dec_le}
 use borrow.Author.Tests.{eq-eqb, ne_eqb}
-use Rattle.base.specs.Bools.{and_false, and_both}
-use Rattle.meaning.specs.Ascii.{if◌then◌else◌}
-use Rattle.meaning.specs.Kind
 use Rattle.meaning.specs.Settings.{Settings}
 use Rattle.meaning.specs.Table.{kind_at, variant_at, length_at, end_at, text_at, head_at, tree_at}
-use Rattle.meaning.specs.Children.{selection, starts, run, past}
-use Rattle.meaning.specs.Rules.{Part, curly_brackets, shorthand, rule_of}
-use Rattle.meaning.specs.Layout.{child_in, is_empty, in_braces, said, is_short, definition_text, children}
+use Rattle.meaning.specs.Children.{selection, run, past}
+use Rattle.meaning.specs.Rules.{curly_brackets, shorthand, rule_of}
+use Rattle.meaning.specs.Layout.{child_in, is_empty, in_braces, is_short, definition_text}
 use Rattle.pen.specs.Wrote.{Wrote, wrote_as}
 use Rattle.layout.specs.declared.Walk.{Walk}
 use Rattle.layout.specs.Kids.{kids, next_is}
-use Rattle.layout.specs.Jobs.{Job, Jobs, children_jobs, job_text, rest_ranged}
+use Rattle.layout.specs.Jobs.{Job, children_jobs, job_text, rest_ranged}
 use Rattle.layout.specs.Did.{Walked, Did, starts_next}
 use Rattle.leaves.specs.Leaves.{no_text_there, text_there}
 use Rattle.serialize.specs.Parts.{did_braces}

@@ -1,6 +1,6 @@
 -- Document 01, "What every public entry owes": "any two answers allowed by the statement are shown equal". A promise fixes the number,
 -- place and length of an answer; these tell the answer itself, because each can be read back from them.
-use Rattle.std.specs.Prelude.{ℕ, ◌≡◌, refl, false, eqb}
+use Rattle.std.specs.Prelude.{◌≡◌, refl, false, eqb}
 use Rattle.std.proofs.Common.{sym, ap, ◌∙◌}
 use Rattle.std.proofs.Math.Option.{Option, none, some}
 use Rattle.meaning.specs.Ascii.{if◌then◌else◌}
@@ -12,7 +12,6 @@ use Rattle.meaning.specs.declared.Checked.{Checked}
 use Rattle.meaning.specs.declared.Checked.TheVariants.{Accepted, Refused as NotAccepted}
 use Rattle.meaning.specs.declared.Printed.{Printed}
 use Rattle.meaning.specs.declared.Printed.TheVariants.{Written, Refused as NotWritten}
-use Rattle.meaning.specs.declared.Form.{Form}
 use Rattle.meaning.specs.declared.Form.TheVariants.{Quoted, Block}
 use Rattle.meaning.specs.declared.Reading.{Reading}
 use Rattle.meaning.specs.declared.Reading.TheVariants.{Value, Refused as NotRead}

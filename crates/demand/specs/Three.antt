@@ -1,18 +1,15 @@
 -- Demand 3, whole. Printing and reading are functions of the defined literal, so each part follows from a law of that literal.
-use Rattle.std.specs.Prelude.{ℕ, ◌≤◌, ◌<◌, ◌≡◌, refl, Bool, true, false, not, ◌||◌, List, ◌++◌, leb, ltb, length, take, drop}
-use Rattle.std.proofs.Common.{sym, ◌∙◌, arith, le-leb}
+use Rattle.std.specs.Prelude.{ℕ, ◌≤◌, ◌<◌, ◌≡◌, Bool, true, false, not, List, ◌++◌, ltb, length, drop}
+use Rattle.std.proofs.Common.{◌∙◌, arith, le-leb}
 use Rattle.std.proofs.Math.Option.{some}
 use Rattle.std.proofs.Math.Decide.{dec_le}
 use Rattle.std.proofs.Math.Seq.{take-append_seam}
 use Rattle.std.proofs.lemmas.Bool.{lt-leb}
 use Rattle.base.specs.Bools.{or_left_false, or_right_false, not_false}
-use Rattle.meaning.specs.Ascii.{if◌then◌else◌}
-use Rattle.meaning.specs.Utf8.{utf8}
 use Rattle.meaning.specs.Settings.{Settings, blank, literal_levels, settings_fault}
 use Rattle.meaning.specs.Literal.{literal}
-use Rattle.meaning.specs.Reading.{reading, value}
-use Rattle.meaning.specs.Answers.{Answer, answer}
-use Rattle.meaning.specs.Entries.{written, printed_literal, read_of, read_literal}
+use Rattle.meaning.specs.Answers.{answer}
+use Rattle.meaning.specs.Entries.{written, printed_literal, read_literal}
 use Rattle.meaning.specs.Demand.{form_of, ReadsBack, Printable, Demand3}
 use Rattle.literal_laws.specs.Bounded.{bounded}
 use Rattle.literal_laws.specs.BlockExactly.{block_exactly}

@@ -1,15 +1,15 @@
 -- What printing a document answers, by where it stops: what the check refuses, an output that is too short, or the text itself.
-use Rattle.std.specs.Prelude.{◌≡◌, Bool, eqb, length, drop}
+use Rattle.std.specs.Prelude.{◌≡◌, Bool, eqb, length}
 use Rattle.std.proofs.Math.Path.{refl, ap}
 use Rattle.std.proofs.Common.{sym, ◌∙◌, inl, inr, arith}
 use Rattle.std.proofs.Math.Bool.{true, false}
-use mathlib.Core.List.{List, [], ◌++◌}
-use Prim.Native.Nat.{ℕ, ◌+◌, ◌^◌, ◌-◌, ◌≤◌, ◌<◌}
+use mathlib.Core.List.{List, []}
+use Prim.Native.Nat.{ℕ, ◌≤◌, ◌<◌}
 use Rattle.base.specs.Bools.{clash}
 use Rattle.meaning.specs.Ascii.{if◌then◌else◌}
 use Rattle.meaning.specs.Settings.{Settings, settings, document_levels, settings_fault}
-use Rattle.meaning.specs.Table.{nodes, tree_of}
-use Rattle.meaning.specs.Refusals.{Verdict, accepted, refusal, verdict, has_fault, Accepted, Given, Right}
+use Rattle.meaning.specs.Table.{tree_of}
+use Rattle.meaning.specs.Refusals.{Verdict, accepted, refusal, verdict, has_fault, Accepted, Right}
 use Rattle.meaning.specs.Layout.{document_text}
 use Rattle.meaning.specs.declared.Refusal.{Refusal}
 use Rattle.meaning.specs.Answers.{Answer, answer, refusal_answer}
@@ -18,7 +18,6 @@ use Rattle.table_laws.specs.Exactly.{verdict_is_right}
 use Rattle.demand.specs.Three.{written_fits, written_short}
 use Rattle.demand.specs.OneAnswer.{refused_is_not_0}
 use Rattle.pen.specs.declared.Pen.{Pen}
-use Rattle.pen.specs.Put.{last}
 use Rattle.pen.specs.Wrote.{AtStart, Wrote, wrote_front, wrote_nowhere}
 use Rattle.settings.specs.Faults.{small_settings}
 use Rattle.text_bound.specs.Document.{document_fits}

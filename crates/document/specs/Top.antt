@@ -1,7 +1,7 @@
 -- The definitions of an accepted table: what printing each of them asks, and the document's text, a definition at a time.
-use Rattle.std.specs.Prelude.{◌≡◌, Bool, true, false, List, [], ◌∷◌, ◌++◌, ℕ, zero, suc, ◌+◌, ◌-◌, ◌≤◌, ◌<◌, leb}
+use Rattle.std.specs.Prelude.{◌≡◌, Bool, true, false, List, [], ◌∷◌, ◌++◌, ℕ, ◌-◌, ◌≤◌, ◌<◌}
 use Rattle.std.proofs.Math.Path.{refl, sym, ap}
-use Rattle.std.proofs.Common.{subst, ◌∙◌, arith}
+use Rattle.std.proofs.Common.{arith}
 use Rattle.meaning.specs.Ascii.{if◌then◌else◌, line_feed, space}
 use Rattle.meaning.specs.Settings.{Settings, settings, new_line, indentation, times}
 use Rattle.meaning.specs.Table.{nodes, kind_at, end_at, head_at, forest, tree_at, tree_of}
@@ -9,11 +9,10 @@ use Rattle.meaning.specs.Refusals.{Accepted}
 use Rattle.meaning.specs.Tree.{Forest, none, more, tree}
 use Rattle.meaning.specs.Layout.{apart, definition_text, later_definitions, document_text}
 use Rattle.pen.specs.declared.Pen.{Pen}
-use Rattle.pen.specs.Wrote.{Wrote, Left, wrote_as, left_as, left_step, left_done, left_all, Ready, ◌⨾◌}
+use Rattle.pen.specs.Wrote.{Wrote, Left, left_as, left_step}
 use Rattle.tree_laws.specs.Height.{height, heights}
 use Rattle.tree_laws.specs.Forest.{Shaped, Range, forest_none, forest_more, children_range, rest_range, tall_first, tall_rest, tall_below}
-use Rattle.tree_laws.specs.Lists.{ListsHoldTypes}
-use Rattle.accepted_laws.specs.Shape.{accepted_shaped, accepted_some_node, accepted_whole}
+use Rattle.accepted_laws.specs.Shape.{accepted_shaped, accepted_some_node}
 use Rattle.accepted_laws.specs.Depth.{accepted_height}
 use Rattle.accepted_laws.specs.Inside.{inside_definitions}
 use Rattle.accepted_laws.specs.Lists.{accepted_lists}

@@ -1,5 +1,6 @@
 // Standard input, or any other reader, read into lent memory.
 #![tactic(auto)]
+
 ghost use Rattle.std.specs.Prelude.{◌≤◌, IfOk, length};
 
 use std::io::{self, Read};

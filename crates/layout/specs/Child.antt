@@ -1,13 +1,13 @@
 -- The next child is printed and passed: that is the part `one`. A node whose rule is one part that looks at no child is a leaf.
-use Rattle.std.specs.Prelude.{◌≡◌, refl, Bool, true, List, [], ◌∷◌, ℕ, ◌+◌, ◌≤◌, ◌<◌, eqb, ltb}
+use Rattle.std.specs.Prelude.{◌≡◌, refl, Bool, true, List, [], ◌∷◌, ℕ, ◌≤◌, ◌<◌, eqb, ltb}
 use Rattle.std.proofs.Common.{sym, ap, subst, ◌∙◌, append-nil, eqb-true}
 use Rattle.base.specs.Bools.{and_right}
 use Rattle.meaning.specs.Settings.{Settings}
 use Rattle.meaning.specs.Literal.{literal as literal_text}
-use Rattle.meaning.specs.Table.{kind_at, variant_at, end_at, text_at, head_at, tree_at}
+use Rattle.meaning.specs.Table.{kind_at, end_at, text_at, head_at, tree_at}
 use Rattle.meaning.specs.Children.{a, is_in, rest}
-use Rattle.meaning.specs.Rules.{Part, text, literal, words, one, rule_of}
-use Rattle.meaning.specs.Layout.{child_in, first_said, part_text, part_rest, said, node_text, children}
+use Rattle.meaning.specs.Rules.{text, literal, one, rule_of}
+use Rattle.meaning.specs.Layout.{child_in, first_said, part_text, part_rest, said, node_text}
 use Rattle.pen.specs.Wrote.{Wrote, wrote_as}
 use Rattle.layout.specs.declared.Walk.{Walk}
 use Rattle.layout.specs.Kids.{kids, kids_none, kids_more, next_is}

@@ -1,5 +1,5 @@
 -- The code's classes are document 01's.
-use Rattle.std.specs.Prelude.{◌≡◌, Bool, true, false, ℕ, ◌≤◌, ◌<◌, eqb, leb}
+use Rattle.std.specs.Prelude.{◌≡◌, true, false, ℕ, ◌≤◌, ◌<◌, eqb, leb}
 use Rattle.std.proofs.Math.Path.{refl}
 use borrow.Author.Tests.{ne_eqb, le-leb, lt-leb}
 use Rattle.meaning.specs.Children.{Class as ClassMeant, a, selection, value, is_in}

@@ -5,7 +5,7 @@ use Rattle.std.proofs.Math.Path.{refl, sym, ap}
 use Rattle.std.proofs.Common.{subst, ◌∙◌, arith, length-append, leb-true, le-leb}
 use Rattle.std.proofs.Math.Bool.{true}
 use mathlib.Core.List.{List, [], ◌∷◌, ◌++◌, append-nil, append_assoc}
-use Prim.Native.Nat.{ℕ, zero, suc, ◌+◌, ◌≤◌, ◌<◌}
+use Prim.Native.Nat.{ℕ, zero, suc, ◌+◌, ◌≤◌}
 use Rattle.std.proofs.Math.Decide.{dec_lt}
 use Rattle.std.proofs.Math.ListN.{get_or-eq_default}
 use Rattle.base.specs.Bools.{clash, and_left, and_right, and_both}
@@ -14,7 +14,7 @@ use Rattle.meaning.specs.Settings.{Settings, settings, new_line_or_space as line
 use Rattle.meaning.specs.Literal.{literal as literal_text}
 use Rattle.meaning.specs.Tree.{Head}
 use Rattle.meaning.specs.Table.{kind_at, variant_at, end_at, text_at, head_at, tree_at}
-use Rattle.meaning.specs.Children.{Class, is_in, starts, rest}
+use Rattle.meaning.specs.Children.{Class, starts}
 use Rattle.meaning.specs.Rules.{Part, tok, words, text, literal, space, new_line_or_space, one, spaced, separated, comma_separated, curly_brackets, if_next, if_text, if_variant, rule_of}
 use Rattle.meaning.specs.Layout.{Child, child_in, is_empty, part_text, part_rest, part_skip, said, node_text}
 use Rattle.pen.specs.Wrote.{Wrote, wrote_as, ◌⨾◌ as ◌then◌}

@@ -1,5 +1,5 @@
 -- What a printing function asks of the nodes that it is to print.
-use Rattle.std.specs.Prelude.{◌≡◌, refl, List, ℕ, suc, ◌+◌, ◌-◌, ◌*◌, ◌≤◌, ◌<◌, length}
+use Rattle.std.specs.Prelude.{◌≡◌, List, ℕ, ◌+◌, ◌-◌, ◌*◌, ◌≤◌, ◌<◌, length}
 use Rattle.std.proofs.Common.{arith}
 use Rattle.meaning.specs.Table.{nodes, kind_at, end_at, forest, tree_at}
 use Rattle.tree_laws.specs.Height.{height, heights}

@@ -1,9 +1,9 @@
 -- The children of a range of nodes, as the layout's rules see them: the first and those after it, and whether the next is of a class.
-use Rattle.std.specs.Prelude.{◌≡◌, refl, Bool, true, false, ◌&&◌, List, [], ◌∷◌, ℕ, ◌+◌, ◌≤◌, ◌<◌, ltb}
+use Rattle.std.specs.Prelude.{◌≡◌, Bool, false, ◌&&◌, List, [], ◌∷◌, ℕ, ◌≤◌, ◌<◌, ltb}
 use Rattle.std.proofs.Common.{ap, sym, ◌∙◌, lt-ltb, le-ltb}
 use Rattle.meaning.specs.Table.{kind_at, variant_at, end_at, head_at, forest, tree_at}
-use Rattle.meaning.specs.Children.{Class, is_in, starts}
-use Rattle.meaning.specs.Layout.{Child, child_in, marks, node_text, children}
+use Rattle.meaning.specs.Children.{Class, is_in}
+use Rattle.meaning.specs.Layout.{Child, marks, node_text, children}
 use Rattle.tree_laws.specs.Forest.{Shaped, Range, forest_none, forest_more}
 
 -- the children that are the trees from node i up to, not including, e

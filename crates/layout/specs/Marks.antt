@@ -1,14 +1,12 @@
 -- Whether an argument definition has a description or a directive, and whether one of several has: a turn and the end of each walk.
-use Rattle.std.specs.Prelude.{◌≡◌, refl, Bool, true, false, ◌||◌, List, [], ◌∷◌, ℕ, ◌+◌, ◌≤◌, ◌<◌, eqb}
+use Rattle.std.specs.Prelude.{◌≡◌, Bool, true, false, ◌||◌, List, ℕ, ◌+◌, ◌≤◌, ◌<◌}
 use Rattle.std.proofs.Math.Path.{ap}
 use Rattle.std.proofs.Common.{sym, ◌∙◌, ne_eqb}
-use Rattle.meaning.specs.Ascii.{if◌then◌else◌}
-use Rattle.meaning.specs.Tree.{Forest, none, more, head}
 use Rattle.meaning.specs.Table.{kind_at, end_at, head_at, forest, tree_at}
-use Rattle.meaning.specs.Children.{Class, is_in, run}
-use Rattle.meaning.specs.Layout.{Child, child_in, is_mark, has_mark, marks, any_marked}
+use Rattle.meaning.specs.Children.{Class, run}
+use Rattle.meaning.specs.Layout.{child_in, is_mark, has_mark, any_marked}
 use Rattle.tree_laws.specs.Forest.{Shaped, Range, forest_none, forest_more}
-use Rattle.layout.specs.Kids.{kids, kids_none, kids_more, child_at, next_is, next_none, next_some}
+use Rattle.layout.specs.Kids.{kids, next_is}
 use Rattle.layout.specs.Jobs.{Ranged}
 use Rattle.layout.specs.Runs.{run_none, run_more}
 

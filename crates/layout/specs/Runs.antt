@@ -1,13 +1,12 @@
 -- The leading children of a class: there is none where the next child is not of it, else the next child and those after it.
-use Rattle.std.specs.Prelude.{◌≡◌, refl, Bool, true, false, ◌&&◌, List, [], ◌∷◌, ℕ, ◌+◌, ◌≤◌, ◌<◌, ltb}
+use Rattle.std.specs.Prelude.{◌≡◌, refl, true, false, List, [], ◌∷◌, ℕ, ◌≤◌, ◌<◌, ltb}
 use Rattle.std.proofs.Common.{ap, sym, ◌∙◌, arith, ltb-true}
 use Rattle.std.proofs.Math.Decide.{dec_lt}
-use Rattle.base.specs.Bools.{clash, and_left, and_right}
-use Rattle.meaning.specs.Ascii.{if◌then◌else◌}
+use Rattle.base.specs.Bools.{and_left}
 use Rattle.meaning.specs.Table.{kind_at, variant_at, end_at, head_at}
 use Rattle.meaning.specs.Children.{Class, is_in, run, past}
 use Rattle.meaning.specs.Layout.{Child, child_in}
-use Rattle.layout.specs.Kids.{kids, kids_none, kids_more, child_at, next_is, next_none, next_some}
+use Rattle.layout.specs.Kids.{kids, kids_none, kids_more, child_at, next_is, next_some}
 use Rattle.layout.specs.Jobs.{Ranged}
 
 run_over : (c : Class) (x : Child) (xs : List Child) → child_in c x ≡ false → run child_in c (x ∷ xs) ≡ []

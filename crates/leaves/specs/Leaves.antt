@@ -1,5 +1,5 @@
 -- The parts of a rule that `leaves` does, by name, and how its functions do them.
-use Rattle.std.specs.Prelude.{◌≡◌, Bool, false, List, [], ◌∷◌, ◌++◌, ℕ, ◌+◌, ◌≤◌, ◌<◌, length, take, drop}
+use Rattle.std.specs.Prelude.{◌≡◌, false, List, [], ◌∷◌, ◌++◌, ℕ, ◌<◌, length, take, drop}
 use Rattle.std.proofs.Math.Path.{refl}
 use Rattle.std.proofs.Common.{ap, arith, length-take, length-drop}
 use Rattle.std.proofs.Math.Bool.{true}
@@ -8,7 +8,7 @@ use Rattle.meaning.specs.Settings.{Settings, new_line_or_space}
 use Rattle.meaning.specs.Literal.{literal}
 use Rattle.meaning.specs.Table.{start_at, length_at, text_at}
 use Rattle.meaning.specs.Children.{a}
-use Rattle.meaning.specs.Rules.{Part, optional, child, token, sp, one_of, description, new_line_or_space as a_line, one, rule_of}
+use Rattle.meaning.specs.Rules.{Part, optional, child, token, sp, one_of, description, new_line_or_space as a_line, rule_of}
 use Rattle.meaning.specs.Layout.{is_empty}
 use Rattle.table.specs.Words.{TextInPool}
 use Rattle.layout.specs.declared.Walk.{Walk}

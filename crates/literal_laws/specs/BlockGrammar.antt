@@ -2,7 +2,7 @@
 -- any other byte as it is.
 use Rattle.std.specs.Prelude.{◌≡◌, refl, ◌↔◌, Bool, true, false, ◌&&◌, List, [], ◌∷◌, ◌++◌, ℕ, eqb, drop}
 use Rattle.std.proofs.Common.{sym, ap, ◌∙◌, eqb-true}
-use Rattle.std.proofs.Math.Option.{none, some}
+use Rattle.std.proofs.Math.Option.{some}
 use Rattle.base.specs.Bools.{and_left, and_right}
 use Rattle.meaning.specs.Ascii.{if◌then◌else◌, backslash, triple_quote}
 use Rattle.meaning.specs.Block.{three_quotes}

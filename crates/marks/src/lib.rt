@@ -1,5 +1,6 @@
 // What printing and reading both look for in a text: spaces and tabs, three quotes.
 #![tactic(auto)]
+
 ghost use Rattle.std.specs.Prelude.{◌≡◌, drop};
 ghost use Rattle.meaning.specs.Settings.{is_blank};
 ghost use Rattle.meaning.specs.Block.{three_quotes};

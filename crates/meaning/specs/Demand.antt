@@ -6,9 +6,9 @@ use Rattle.meaning.specs.Utf8.{scalar, encoded, utf8}
 use Rattle.meaning.specs.Settings.{Settings, blank, literal_levels, settings_fault}
 use Rattle.meaning.specs.Block.{has, raw_lines, first_line, block_string_value}
 use Rattle.meaning.specs.Literal.{takes_block, literal}
-use Rattle.meaning.specs.Reading.{Form, quoted_form, block_form, Reading, value, reading}
+use Rattle.meaning.specs.Reading.{Form, quoted_form, block_form, value, reading}
 use Rattle.meaning.specs.Refusals.{value_size_fault}
-use Rattle.meaning.specs.Answers.{Answer, answer}
+use Rattle.meaning.specs.Answers.{answer}
 use Rattle.meaning.specs.Entries.{printed_literal, read_literal}
 
 -- ---- "With n bytes, f line feeds and L indent bytes (level times prefix length): quoted at most 6n + 2;

@@ -1,5 +1,5 @@
 -- What the entries answer and leave in the output, on the smallest inputs: which refusal goes first, the exact room, bytes past the text.
-use Rattle.std.specs.Prelude.{◌≡◌, refl, Bool, true, false, List, [], ◌∷◌, ◌++◌, ℕ}
+use Rattle.std.specs.Prelude.{◌≡◌, refl, true, false, [], ◌∷◌}
 use Rattle.std.proofs.Math.Option.{none, some}
 use Rattle.meaning.specs.Ascii.{ascii}
 use Rattle.meaning.specs.Settings.{Settings, settings, default_settings}

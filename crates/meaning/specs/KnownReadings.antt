@@ -1,9 +1,9 @@
 -- Readings that document 01 and the specification fix.
 use Rattle.std.specs.Prelude.{◌≡◌, refl, true, false, List, [], ◌∷◌, ◌++◌, ℕ}
 use Prim.Native.String.{String}
-use Rattle.meaning.specs.Ascii.{ascii, tab}
+use Rattle.meaning.specs.Ascii.{ascii}
 use Rattle.meaning.specs.Utf8.{utf8}
-use Rattle.meaning.specs.Reading.{Reading, refused, value, quoted_form, block_form, reading}
+use Rattle.meaning.specs.Reading.{refused, value, quoted_form, block_form, reading}
 
 abbrev Quoted : String → String → Type 0
 Quoted text v = reading (ascii text) ≡ value quoted_form (ascii v)

@@ -1,10 +1,10 @@
 -- Refusals that document 01 fixes: the smallest tables, each fault by itself, the lowest number and the smallest node.
-use Rattle.std.specs.Prelude.{◌≡◌, refl, Bool, true, false, List, [], ◌∷◌, ◌++◌, ℕ, zero, suc, ◌+◌, ◌*◌, ◌-◌, length}
+use Rattle.std.specs.Prelude.{◌≡◌, refl, true, false, List, [], ◌∷◌, ◌++◌, ℕ, zero, suc, ◌*◌, length}
 use Prim.Native.String.{String}
 use Rattle.meaning.specs.Ascii.{ascii}
-use Rattle.meaning.specs.Children.{TextRule, no_text, name, name_or_empty, fragment_name, enum_name, float, int, any_text}
+use Rattle.meaning.specs.Children.{TextRule, name, name_or_empty, fragment_name, enum_name, float, int}
 use Rattle.meaning.specs.Text.{text_fits}
-use Rattle.meaning.specs.Refusals.{Verdict, accepted, refusal, verdict, size_fault, value_size_fault}
+use Rattle.meaning.specs.Refusals.{accepted, refusal, verdict, size_fault, value_size_fault}
 use Rattle.meaning.specs.Known.{query_of_a}
 
 -- a node in front of the others

@@ -1,5 +1,5 @@
 -- Document 01, "Layout": what the parts of a rule write, and the text of a document.
-use Rattle.std.specs.Prelude.{ℕ, zero, suc, ◌+◌, Bool, true, false, not, ◌&&◌, ◌||◌, List, [], ◌∷◌, ◌++◌, eqb, get_or}
+use Rattle.std.specs.Prelude.{ℕ, zero, suc, Bool, true, false, ◌&&◌, ◌||◌, List, [], ◌∷◌, ◌++◌, eqb, get_or}
 use Rattle.meaning.specs.Ascii.{if◌then◌else◌, ascii, line_feed, space as a_space}
 use Rattle.meaning.specs.Kind
 use Rattle.meaning.specs.Tree.{Head, Tree, tree, Forest, none, more, head}

@@ -1,5 +1,5 @@
 -- Document 01, "String literals": which form is taken, and the whole literal.
-use Rattle.std.specs.Prelude.{Bool, true, false, ◌&&◌, ◌||◌, List, ℕ}
+use Rattle.std.specs.Prelude.{Bool, ◌&&◌, ◌||◌, List, ℕ}
 use Rattle.meaning.specs.Ascii.{if◌then◌else◌, line_feed}
 use Rattle.meaning.specs.Settings.{Settings, indentation}
 use Rattle.meaning.specs.Quoted.{quoted}

@@ -1,5 +1,5 @@
 -- Document 01, "String literals", "Reading": one StringValue of the specification, with its form.
-use Rattle.std.specs.Prelude.{Bool, true, false, not, ◌&&◌, ◌||◌, List, [], ◌∷◌, ◌++◌, ℕ, zero, suc, ◌+◌, ◌-◌, ◌*◌, eqb, ltb, leb, drop}
+use Rattle.std.specs.Prelude.{Bool, ◌&&◌, ◌||◌, List, [], ◌∷◌, ◌++◌, ℕ, zero, suc, ◌+◌, ◌-◌, ◌*◌, eqb, ltb, leb, drop}
 use Rattle.std.proofs.Math.Option.{Option, none, some}
 use Rattle.meaning.specs.Ascii.{if◌then◌else◌, tab, line_feed, carriage_return, quote, backslash, triple_quote}
 use Rattle.meaning.specs.Utf8.{scalar, encoded, utf8}

@@ -4,7 +4,7 @@ use Rattle.meaning.specs.Ascii.{if◌then◌else◌}
 use Rattle.meaning.specs.First.{first, some, count}
 use Rattle.meaning.specs.Kind
 use Rattle.meaning.specs.Table.{words_per_node, nodes, kind_at, variant_at, start_at, length_at, end_at, text_at, children_at}
-use Rattle.meaning.specs.Children.{no_text, TextRule, name, name_or_empty, fragment_name, enum_name, float, int, any_text, Row, row_of, Class, is_in, fill, from◌to◌}
+use Rattle.meaning.specs.Children.{no_text, TextRule, name, name_or_empty, fragment_name, enum_name, float, int, any_text, row_of, Class, is_in, fill, from◌to◌}
 use Rattle.meaning.specs.Text.{text_fits}
 
 -- one of the faults is there

@@ -1,5 +1,5 @@
 -- Documents that between them hold all 45 kinds, with the texts that 000 itself gives for them: every rule is seen at work.
-use Rattle.std.specs.Prelude.{◌≡◌, refl, List, ℕ}
+use Rattle.std.specs.Prelude.{◌≡◌, refl, ℕ}
 use Prim.Native.String.{String}
 use Rattle.meaning.specs.Ascii.{ascii}
 use Rattle.meaning.specs.Kind

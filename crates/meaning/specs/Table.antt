@@ -1,6 +1,6 @@
 -- Document 01, "The node table": "A slice of u32, five words a node, in preorder: kind, variant, text start, text length, end.
 -- `end` is the number of the first node after the subtree. Text lies in a byte pool."
-use Rattle.std.specs.Prelude.{ℕ, zero, suc, ◌+◌, ◌-◌, ◌*◌, ◌/◌, Bool, true, false, List, [], ◌∷◌, length, get_or, take, drop, ltb}
+use Rattle.std.specs.Prelude.{ℕ, zero, suc, ◌+◌, ◌-◌, ◌*◌, ◌/◌, true, false, List, [], ◌∷◌, length, get_or, take, drop, ltb}
 use Rattle.meaning.specs.Tree.{Head, Tree, tree, Forest, none, more}
 
 abbrev pub words_per_node : ℕ

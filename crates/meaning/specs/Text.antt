@@ -1,5 +1,5 @@
 -- Document 01, "Refusal numbers", row 7: names, numbers and other text.
-use Rattle.std.specs.Prelude.{Bool, true, false, not, ◌&&◌, ◌||◌, List, [], ◌∷◌, ℕ, eqb, leb}
+use Rattle.std.specs.Prelude.{Bool, true, false, not, ◌&&◌, ◌||◌, List, [], ◌∷◌, ℕ, eqb}
 use Rattle.std.proofs.Math.Option.{Option, none, some}
 use Rattle.meaning.specs.Ascii.{if◌then◌else◌, ascii}
 use Rattle.meaning.specs.Utf8.{utf8}

@@ -1,6 +1,7 @@
 // Writing into lent memory. Nothing is required of a caller: past the end of `out` nothing is stored and the place still goes
 // on, so the same walk over `&mut out[..0]` measures. At 2^64 - 1 the place stays.
 #![tactic(auto)]
+
 ghost use Rattle.std.specs.Prelude.{◌≡◌, ◌∷◌, [], ◌+◌, ◌-◌, min, length};
 ghost use Rattle.meaning.specs.Settings.{times};
 ghost use Rattle.pen.specs.Put.{last, put};

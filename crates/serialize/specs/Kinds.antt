@@ -1,12 +1,12 @@
 -- The arms of the two matches on a kind that are no single number.
-use Rattle.std.specs.Prelude.{◌≡◌, refl, true, ◌&&◌, List, [], ◌∷◌, ℕ, ◌≤◌, ◌<◌, leb, length, get_or}
-use Rattle.std.proofs.Common.{ap, arith, le-leb}
+use Rattle.std.specs.Prelude.{◌≡◌, true, List, [], ℕ, ◌≤◌, ◌<◌, leb}
+use Rattle.std.proofs.Common.{arith, le-leb}
 use Rattle.std.proofs.Math.ListN.{get_or-eq_default}
 use Rattle.base.specs.Bools.{and_both}
 use Rattle.meaning.specs.Settings.{Settings}
 use Rattle.meaning.specs.Table.{kind_at, variant_at, head_at, tree_at}
 use Rattle.meaning.specs.Children.{type, is_in}
-use Rattle.meaning.specs.Rules.{Part, rules, rule_of}
+use Rattle.meaning.specs.Rules.{rules, rule_of}
 use Rattle.meaning.specs.Layout.{said, node_text}
 
 pub a_type : (w : List ℕ) (i : ℕ) {k : ℕ} → k ≡ kind_at w i → 33 ≤ k → k < 35 → is_in type (kind_at w i) (variant_at w i) ≡ true

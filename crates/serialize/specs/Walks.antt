@@ -1,5 +1,5 @@
 -- Lists of children: what a walk over them writes, a turn at a time, and how its lists are made of it.
-use Rattle.std.specs.Prelude.{◌≡◌, Bool, true, false, ℕ, ◌+◌, ◌-◌, ◌≤◌, ◌<◌, length}
+use Rattle.std.specs.Prelude.{◌≡◌, Bool, true, false, ℕ, ◌<◌, length}
 use Rattle.std.proofs.Math.Path.{refl, sym}
 use Rattle.std.proofs.Common.{ap, subst, ◌∙◌, arith}
 use mathlib.Core.List.{List, [], ◌∷◌, ◌++◌}
@@ -8,8 +8,7 @@ use Rattle.meaning.specs.Ascii.{if◌then◌else◌, ascii}
 use Rattle.meaning.specs.Settings.{Settings, deeper, new_line, new_line_or_space}
 use Rattle.meaning.specs.Children.{Class, starts, rest, run, past}
 use Rattle.meaning.specs.Layout.{Child, child_in, first_said, each, in_braces, in_commas}
-use Rattle.pen.specs.declared.Pen.{Pen}
-use Rattle.pen.specs.Wrote.{Wrote, Left, wrote_as, left_all, left_as, left_step, left_done, ◌⨾◌, Ready}
+use Rattle.pen.specs.Wrote.{Left, wrote_as, left_all, left_as, left_step, left_done, ◌⨾◌, Ready}
 use Rattle.layout.specs.declared.Walk.{Walk}
 use Rattle.layout.specs.Kids.{kids, next_is}
 use Rattle.layout.specs.Written.{Kept, last_comma}

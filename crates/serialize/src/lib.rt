@@ -1,5 +1,6 @@
 // Every node below a definition, printed as serialize.rs prints it. One walk over children, `each`, decides by kind.
 #![tactic(auto)]
+
 ghost use Rattle.std.specs.Prelude.{◌≡◌, ◌∷◌, [], ◌++◌, ℕ, ◌+◌, ◌≤◌, ◌<◌};
 ghost use Rattle.meaning.specs.Ascii.{ascii};
 ghost use Rattle.meaning.specs.Kind;

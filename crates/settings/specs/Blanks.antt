@@ -1,5 +1,5 @@
 -- A turn of a loop over blanks, and its end.
-use Rattle.std.specs.Prelude.{◌≡◌, refl, Bool, true, false, List, ℕ, ◌+◌, ◌≤◌, ◌<◌, length, drop, get_or}
+use Rattle.std.specs.Prelude.{◌≡◌, true, false, List, ℕ, ◌+◌, ◌≤◌, ◌<◌, length, drop, get_or}
 use Rattle.std.proofs.Common.{drop_of_length-le}
 use Rattle.meaning.specs.Settings.{is_blank, blank}
 use Rattle.pen.specs.Lists.{drop_one}

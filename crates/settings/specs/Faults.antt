@@ -1,9 +1,8 @@
 -- When settings are refused, a test at a time.
-use Rattle.std.specs.Prelude.{◌≡◌, refl, Bool, true, false, not, ◌||◌, List, ℕ, ◌≤◌, ◌<◌, ltb, length}
-use Rattle.std.proofs.Common.{sym}
+use Rattle.std.specs.Prelude.{◌≡◌, Bool, true, false, not, List, ℕ, ◌≤◌, ◌<◌, ltb, length}
 use borrow.Author.Tests.{lt-ltb, le-ltb, ltb-false}
 use Rattle.base.specs.Bools.{or_left_false, or_right_false}
-use Rattle.meaning.specs.Settings.{Settings, settings, blank, settings_fault}
+use Rattle.meaning.specs.Settings.{settings, blank, settings_fault}
 
 module _ (levels : ℕ) (b : Bool) (p : List ℕ) (l : ℕ) where
   pub prefix_too_long : 16 < length p → true ≡ settings_fault levels (settings b p l)

@@ -1,9 +1,9 @@
 -- Document 01's refusal table, "given exactly when": the verdict is refusal m at node i exactly if i has the fault m, no smaller node
 -- has it and no node has a lower one; and a table is accepted exactly if it has no fault.
 use Prim.Native.Nat.{ℕ, zero, suc, ◌+◌, ◌≤◌, ◌<◌}
-use Rattle.std.specs.Prelude.{◌≡◌, ◌⊎◌, Bool, true, List, ltb, eqb}
+use Rattle.std.specs.Prelude.{◌≡◌, Bool, true, List, ltb}
 use Rattle.std.proofs.Math.Path.{refl}
-use Rattle.std.proofs.Common.{sym, ◌∙◌, ap, subst, inl, ⊎_elim, le_antisymm, le_of_suc-le-suc, eq-or-lt_of_le, arith}
+use Rattle.std.proofs.Common.{sym, subst, inl, ⊎_elim, le_antisymm, le_of_suc-le-suc, eq-or-lt_of_le, arith}
 use Rattle.std.proofs.Math.Logic.{inr}
 use Rattle.std.proofs.Math.Bool.{false}
 use Rattle.std.proofs.Math.Decide.{dec_le}
@@ -12,7 +12,7 @@ use Rattle.base.specs.Bools.{clash}
 use Rattle.meaning.specs.Ascii.{if◌then◌else◌}
 use Rattle.meaning.specs.First.{first, IsFirst}
 use Rattle.meaning.specs.Table.{nodes}
-use Rattle.meaning.specs.Refusals.{size_fault, has_fault, Verdict, accepted, refusal, lowest_from, verdict, Given, Accepted, Right, ExactlyWhen}
+use Rattle.meaning.specs.Refusals.{size_fault, has_fault, Verdict, accepted, refusal, lowest_from, verdict, Given, Right, ExactlyWhen}
 use Rattle.table_laws.specs.First.{not_less, first_is_first}
 
 module _ (w p : List ℕ) where

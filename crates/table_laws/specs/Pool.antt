@@ -1,14 +1,12 @@
 -- Document 01: "Pool bytes that no node names never matter: equal-length pools agreeing on all named ranges give equal answers." The
 -- faults look at the pool's length and at the texts of the nodes, and at nothing else of it.
-use Prim.Native.Nat.{ℕ, zero, suc, ◌≤◌, ◌<◌}
-use Rattle.std.specs.Prelude.{◌≡◌, Bool, true, false, List, ltb, eqb, length}
+use Prim.Native.Nat.{ℕ, zero, suc, ◌<◌}
+use Rattle.std.specs.Prelude.{◌≡◌, Bool, List, length}
 use Rattle.std.proofs.Math.Path.{refl}
-use Rattle.std.proofs.Common.{sym, ap, ◌∙◌, le_refl, le_trans, lt_of_lt_of_le, arith}
-use Rattle.std.proofs.Math.Nat.{le-suc}
-use Rattle.meaning.specs.Ascii.{if◌then◌else◌}
+use Rattle.std.proofs.Common.{arith}
 use Rattle.meaning.specs.First.{first}
 use Rattle.meaning.specs.Table.{nodes, text_at}
-use Rattle.meaning.specs.Refusals.{size_fault, node_fault, nesting_fault, depth_fault, children_fault, text_fault, has_fault, Verdict, refusal, lowest_from, verdict}
+use Rattle.meaning.specs.Refusals.{size_fault, node_fault, text_fault, has_fault, lowest_from, verdict}
 use Rattle.meaning.specs.Settings.{Settings}
 use Rattle.meaning.specs.Entries.{checked_table, checked_document}
 

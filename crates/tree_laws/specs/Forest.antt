@@ -2,10 +2,10 @@
 -- definition recurses, never matters.
 use Rattle.std.specs.Prelude.{◌≡◌, List, length}
 use Rattle.std.proofs.Math.Path.{refl}
-use Rattle.std.proofs.Common.{ap, ap₂, ◌∙◌, arith, lt-ltb, le-ltb}
+use Rattle.std.proofs.Common.{ap₂, ◌∙◌, arith, lt-ltb, le-ltb}
 use Prim.Native.Nat.{ℕ, zero, suc, ◌+◌, ◌-◌, ◌*◌, ◌≤◌, ◌<◌}
 use Rattle.std.proofs.Math.Decide.{dec_lt}
-use Rattle.meaning.specs.Tree.{Head, Tree, tree, Forest, none, more}
+use Rattle.meaning.specs.Tree.{tree, none, more}
 use Rattle.meaning.specs.Table.{nodes, start_at, length_at, end_at, head_at, forest_in, forest, tree_at}
 use Rattle.tree_laws.specs.Height.{height, heights}
 

@@ -1,6 +1,6 @@
 -- Heights of trees: how many nodes a way down passes.
 use Rattle.std.specs.Prelude.{ℕ, suc, max}
-use Rattle.meaning.specs.Tree.{Head, Tree, tree, Forest, none, more}
+use Rattle.meaning.specs.Tree.{Tree, tree, Forest, none, more}
 
 unfoldable mutual
   pub height : Tree → ℕ

@@ -1,5 +1,5 @@
 -- What printing a type asks: a node that is a type, in a table whose list types hold types.
-use Rattle.std.specs.Prelude.{◌≡◌, Bool, true, ◌&&◌, List, [], ◌∷◌, ◌++◌, ℕ, suc, ◌+◌, ◌-◌, ◌≤◌, ◌<◌, leb}
+use Rattle.std.specs.Prelude.{◌≡◌, true, List, ℕ, ◌+◌, ◌-◌, ◌≤◌, ◌<◌, leb}
 use Rattle.std.proofs.Math.Path.{refl}
 use Rattle.std.proofs.Common.{sym, ap, subst, ◌∙◌, arith}
 use borrow.Author.Tests.{leb-true}
@@ -7,13 +7,13 @@ use Rattle.base.specs.Bools.{and_left, and_right}
 use Rattle.meaning.specs.Ascii.{ascii}
 use Rattle.meaning.specs.Kind
 use Rattle.meaning.specs.Settings.{Settings}
-use Rattle.meaning.specs.Table.{nodes, kind_at, variant_at, end_at, text_at, forest, tree_at}
+use Rattle.meaning.specs.Table.{nodes, kind_at, variant_at, end_at, text_at, tree_at}
 use Rattle.meaning.specs.Children.{type, is_in}
-use Rattle.meaning.specs.Rules.{text, one, token, name, child, non_null, if_one, rule_of}
+use Rattle.meaning.specs.Rules.{one, token, child, non_null, rule_of}
 use Rattle.meaning.specs.Layout.{node_text, part_text, part_rest}
 use Rattle.pen.specs.Wrote.{Wrote}
-use Rattle.tree_laws.specs.Height.{height, heights}
-use Rattle.tree_laws.specs.Forest.{Shaped, Range, children_range, tall_first, tall_below}
+use Rattle.tree_laws.specs.Height.{height}
+use Rattle.tree_laws.specs.Forest.{Shaped, children_range, tall_first, tall_below}
 use Rattle.tree_laws.specs.Lists.{ListsHoldTypes}
 use Rattle.table.specs.Words.{InTable, TextInPool}
 use Rattle.layout.specs.declared.Walk.{Walk}

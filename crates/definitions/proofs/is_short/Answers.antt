@@ -1,7 +1,6 @@
 -- `definitions::is_short` meets its contract: the tests of shorthand, in their order.
 use Rattle.definitions.specs.Short.{other_kind, other_variant, named, selections_tell}
 use Rattle.std.proofs.Math.Path.{◌∙◌}
-use Rattle.std.proofs.Common.{rules}
 use Rattle.definitions.proofs.is_short.Goals as goal
 
 pub returns-then-kind-ne-OPERATION : goal.returns-then-kind-ne-OPERATION

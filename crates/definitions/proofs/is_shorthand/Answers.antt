@@ -1,5 +1,4 @@
 -- `definitions::is_shorthand` meets its contract.
-use Rattle.std.proofs.Common.{rules}
 use Rattle.definitions.proofs.is_shorthand.Goals as goal
 
 pub returns-then-first : goal.returns-then-first

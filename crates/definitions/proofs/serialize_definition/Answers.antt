@@ -1,8 +1,7 @@
-use Rattle.std.proofs.Common.{rules, arith, sym}
+use Rattle.std.proofs.Common.{arith, sym}
 use Rattle.definitions.specs.Short.{long_definition, short_definition}
 use Rattle.serialize.specs.Parts.{parts_of_lem}
 use Rattle.layout.specs.Jobs.{job_in_table, job_deep, children_jobs, rest_within}
-use Rattle.base.specs.Bools.{and_left, and_right}
 use Rattle.pen.specs.Wrote.{wrote_length}
 use Rattle.std.specs.Prelude.{refl}
 use Rattle.std.proofs.Math.Path.{◌∙◌}

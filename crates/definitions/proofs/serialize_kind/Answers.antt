@@ -1,9 +1,5 @@
 -- `definitions::serialize_kind` meets its contract: a function for each kind, one for the types and one for their extensions.
 use Rattle.definitions.specs.Segments.{not_zero, above_eleven}
-use Rattle.pen.specs.Wrote.{wrote_length}
-use Rattle.meaning.specs.Rules.{rule_of}
-use Rattle.std.proofs.Common.{arith, rules}
-use Rattle.std.proofs.Math.Logic.{⊎_elim}
 use Rattle.definitions.proofs.serialize_kind.Goals as goal
 use Rattle.definitions.proofs.serialize_kind.Goals.{in_default-via-then-kind-lt1, in_default-via-else-kind-lt1+else-kind-lt11}
 

@@ -1,9 +1,6 @@
 -- What the rest of the bytes makes of the remainder is the digest of the whole.
-use Rattle.std.proofs.Math.Path.{◌≡◌, ◌∙◌}
-use Rattle.std.proofs.Common.{sym, arith, rules}
-use Prim.Native.Nat.{◌-◌, ◌%◌, ◌<◌}
-use Rattle.std.specs.Prelude.{length, drop}
-use Rattle.digest.specs.Digest.{modulus, number_from, digest}
+use Rattle.std.proofs.Math.Path.{◌∙◌}
+use Rattle.std.proofs.Common.{sym, arith}
 use Rattle.digest.proofs.Remainders.{digit_more, digits_end, digits_begin}
 use Rattle.digest.proofs.digest.Goals as goal
 

@@ -1,10 +1,8 @@
 -- What the rest of the bytes makes of the remainder is the digest of the whole.
-use Rattle.std.proofs.Math.Path.{◌≡◌, ◌∙◌}
-use Rattle.std.proofs.Common.{sym, arith, rules}
+use Rattle.std.proofs.Math.Path.{◌≡◌}
 use Prim.Native.Nat.{◌-◌, ◌%◌, ◌<◌}
 use Rattle.std.specs.Prelude.{length, drop}
 use Rattle.digest.specs.Digest.{modulus, number_from, digest}
-use Rattle.digest.proofs.Remainders.{digit_more, digits_end, digits_begin}
 use Rattle.digest.proofs.digest.Given as goal
 
 abbrev pub invariant-loop-i : goal.invariant-loop-i

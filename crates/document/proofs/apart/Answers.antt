@@ -1,8 +1,6 @@
 -- `document::apart` meets its contract: an empty line and a new one, or a space.
-use Rattle.std.specs.Prelude.{refl}
 use Rattle.document.specs.Top.{apart_on, apart_off}
 use Rattle.pen.specs.Wrote.{◌⨾◌, wrote_as}
-use Rattle.std.proofs.Common.{rules}
 use Rattle.document.proofs.apart.Goals as goal
 
 pub returns-then-state : goal.returns-then-state

@@ -1,7 +1,7 @@
 -- `document::end_line` meets its contract: nothing with breaks off.
 use Rattle.document.specs.Top.{ending_on, ending_off}
 use Rattle.pen.specs.Wrote.{wrote_as, wrote_none}
-use Rattle.std.proofs.Common.{arith, rules}
+use Rattle.std.proofs.Common.{arith}
 use Rattle.document.proofs.end_line.Goals as goal
 
 pub returns-then-state : goal.returns-then-state

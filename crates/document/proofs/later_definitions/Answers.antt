@@ -1,13 +1,7 @@
 -- `document::later_definitions` meets its contract: once those that are left are written, all are.
-use Rattle.document.specs.Top.{Tops, tops_node, tops_job, tops_kind, tops_on, tops_less, one_later, none_later, later_turn}
-use Rattle.layout.specs.Written.{under}
-use Rattle.pen.specs.Wrote.{Left, left_all, left_as, left_step, left_done, left_length}
-use Rattle.meaning.specs.Layout.{later_definitions}
-use Rattle.meaning.specs.Table.{forest}
-use Rattle.std.proofs.Common.{arith, sym}
-use Prim.Native.Nat.{◌-◌}
-use Rattle.std.proofs.Math.Path.{◌≡◌, ◌∙◌}
-use Rattle.std.specs.Prelude.{refl}
+use Rattle.document.specs.Top.{tops_node, tops_job, tops_kind, tops_on, tops_less, none_later, later_turn}
+use Rattle.pen.specs.Wrote.{left_all, left_as, left_done, left_length}
+use Rattle.std.proofs.Common.{arith}
 use Rattle.document.proofs.later_definitions.Goals as goal
 
 pub loop-i-init : goal.loop-i-init

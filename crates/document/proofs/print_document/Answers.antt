@@ -1,9 +1,8 @@
 -- `document::print_document` meets its contract: the check's refusal, or the text measured and then written where there is room.
 use Rattle.document.specs.Printing.{refuses_as_checked, refuses_room, prints, top_of}
 use Rattle.meaning.specs.Answers.{checked_answer}
-use Rattle.std.proofs.Math.Path.{◌≡◌, ◌∙◌}
-use Rattle.std.proofs.Common.{sym, ap, rules}
-use Rattle.std.specs.Prelude.{refl}
+use Rattle.std.proofs.Math.Path.{◌∙◌}
+use Rattle.std.proofs.Common.{sym, ap}
 use Rattle.document.proofs.print_document.Goals as goal
 
 pub returns-in-Refused : goal.returns-in-Refused

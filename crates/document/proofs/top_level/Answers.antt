@@ -1,9 +1,7 @@
 -- `document::top_level` meets its contract: the first definition, the later ones, and a line feed.
 use Rattle.document.specs.Top.{document_node, first_tops, tops_node, tops_job, tops_kind, tops_on, empty_document, document_is}
-use Rattle.pen.specs.Wrote.{◌⨾◌, wrote_as, wrote_none, wrote_length}
-use Rattle.std.proofs.Common.{arith, sym, rules}
-use Rattle.std.specs.Prelude.{refl}
-use Rattle.std.proofs.Math.Path.{◌∙◌}
+use Rattle.pen.specs.Wrote.{◌⨾◌, wrote_as, wrote_none}
+use Rattle.std.proofs.Common.{arith}
 use Rattle.document.proofs.top_level.Goals as goal
 
 pub end-requires : goal.end-requires

@@ -1,11 +1,10 @@
 -- `layout::any_marked` meets its contract: what is left to look at tells, since no argument definition that was passed is marked.
-use Rattle.layout.specs.Marks.{marked_run, marked_none, marked_here, marked_later, marked_at_lem}
+use Rattle.layout.specs.Marks.{marked_none, marked_here, marked_later, marked_at_lem}
 use Rattle.layout.specs.Runs.{next_is_there}
-use Rattle.layout.specs.Jobs.{Ranged, ranged_within, ranged_node, ranged_on, ranged_children, ranged_less}
+use Rattle.layout.specs.Jobs.{ranged_within, ranged_node, ranged_on, ranged_children, ranged_less}
 use Rattle.meaning.specs.Children.{a}
 use Rattle.std.proofs.Common.{arith, sym}
-use Prim.Native.Nat.{◌-◌}
-use Rattle.std.proofs.Math.Path.{◌≡◌, ◌∙◌}
+use Rattle.std.proofs.Math.Path.{◌∙◌}
 use Rattle.std.specs.Prelude.{refl}
 use Rattle.layout.proofs.any_marked.Goals as goal
 

@@ -1,7 +1,5 @@
 -- `layout::comma_and_line` meets its contract: the one after the other.
-use Rattle.std.specs.Prelude.{refl}
 use Rattle.layout.specs.Written.{kept_both}
-use Rattle.std.proofs.Common.{rules}
 use Rattle.layout.proofs.comma_and_line.Goals as goal
 
 pub returns : goal.returns

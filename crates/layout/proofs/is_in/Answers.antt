@@ -1,6 +1,5 @@
 -- `layout::is_in` meets its contract: a test for each class.
 use Rattle.layout.specs.Classes.{kind_tells}
-use Rattle.std.proofs.Common.{rules}
 use Rattle.layout.proofs.is_in.Goals as goal
 
 pub returns-in-Kind : goal.returns-in-Kind

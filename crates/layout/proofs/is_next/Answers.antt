@@ -1,8 +1,6 @@
 use Rattle.layout.specs.Kids.{next_none, kind_tells_next}
-use Rattle.meaning.specs.Children.{is_in}
-use Rattle.std.proofs.Common.{arith, sym, rules}
-use Rattle.layout.specs.Kids.{next_none, next_some}
-use Rattle.std.proofs.Math.Path.{◌∙◌}
+use Rattle.std.proofs.Common.{arith, sym}
+use Rattle.layout.specs.Kids.{next_none}
 use Rattle.layout.proofs.is_next.Goals as goal
 
 -- `layout::is_next` meets its contract: no child is next, or its kind tells.

@@ -1,7 +1,7 @@
 -- `layout::new_line` meets its contract: nothing with breaks off, else a line feed and the prefix once per level.
 use Rattle.layout.specs.Written.{kept_none, kept_as, line_off, line_on}
 use Rattle.pen.specs.Wrote.{◌⨾◌, wrote_as}
-use Rattle.std.proofs.Common.{arith, rules}
+use Rattle.std.proofs.Common.{arith}
 use Rattle.std.specs.Prelude.{refl}
 use Rattle.layout.proofs.new_line.Goals as goal
 

@@ -1,7 +1,5 @@
 -- `layout::new_line_or_space` meets its contract: a space with breaks off, else a new line.
-use Rattle.std.specs.Prelude.{refl}
 use Rattle.layout.specs.Written.{kept_as, space_off, space_on}
-use Rattle.std.proofs.Common.{rules}
 use Rattle.layout.proofs.new_line_or_space.Goals as goal
 
 pub returns-then-state : goal.returns-then-state

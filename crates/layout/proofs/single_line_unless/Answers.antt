@@ -1,7 +1,4 @@
 -- `layout::single_line_unless` meets its contract: the mark decides.
-use Rattle.layout.proofs.single_line_unless.Reads as reads
-use Rattle.layout.proofs.single_line_unless.Lts as lts
-use Rattle.layout.proofs.on_single_line.Reads as on-single-line-reads
 use Rattle.layout.proofs.single_line_unless.Goals as goal
 
 -- src/lib.rt:144:9

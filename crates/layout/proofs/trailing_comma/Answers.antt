@@ -1,7 +1,6 @@
 -- `layout::trailing_comma` meets its contract: nothing with breaks off.
-use Rattle.std.specs.Prelude.{refl}
 use Rattle.layout.specs.Written.{kept_none, kept_as, comma_off, comma_on}
-use Rattle.std.proofs.Common.{arith, rules}
+use Rattle.std.proofs.Common.{arith}
 use Rattle.layout.proofs.trailing_comma.Goals as goal
 
 pub returns-then-list : goal.returns-then-list

@@ -1,6 +1,4 @@
 -- `layout::write_gap` meets its contract: a gap of each kind.
-use Rattle.std.specs.Prelude.{refl}
-use Rattle.std.proofs.Common.{rules}
 use Rattle.layout.proofs.write_gap.Goals as goal
 
 pub returns-in-Space : goal.returns-in-Space

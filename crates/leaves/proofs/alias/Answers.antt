@@ -8,7 +8,7 @@ use mathlib.Core.List.{◌++◌}
 use Rattle.meaning.specs.Rules.{child, token, sp}
 use Rattle.meaning.specs.Children.{a}
 use Rattle.meaning.specs.Kind
-use Rattle.std.proofs.Common.{arith, sym, rules}
+use Rattle.std.proofs.Common.{arith, sym}
 use Rattle.std.specs.Prelude.{refl}
 use Rattle.std.proofs.Math.Path.{◌∙◌}
 use Rattle.leaves.proofs.alias.Goals as goal

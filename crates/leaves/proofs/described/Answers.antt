@@ -1,5 +1,4 @@
 -- `leaves::described` meets its contract: the child's literal and a new line.
-use Rattle.std.proofs.Common.{rules}
 use Rattle.leaves.specs.Leaves.{described}
 use Rattle.layout.specs.Written.{kept_in_table}
 use Rattle.layout.specs.Runs.{next_is_there}

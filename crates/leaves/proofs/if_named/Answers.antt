@@ -3,7 +3,7 @@ use Rattle.leaves.specs.Leaves.{no_text_there, text_there}
 use Rattle.layout.specs.Did.{◌⨾◌, did_tokens, did_name, no_text_lem, a_text, plain_and_name_close}
 use Rattle.layout.specs.Written.{kept_none, kept_as}
 use Rattle.meaning.specs.Rules.{text}
-use Rattle.std.proofs.Common.{arith, sym, rules}
+use Rattle.std.proofs.Common.{arith, sym}
 use mathlib.Core.List.{◌++◌, ◌∷◌, []}
 use Rattle.leaves.proofs.if_named.Goals as goal
 

@@ -2,7 +2,7 @@
 use Rattle.layout.specs.Did.{did_tokens, is_one, not_one, plain_close}
 use Rattle.layout.specs.Written.{kept_none, kept_as}
 use borrow.Author.Tests.{eq-eqb, ne_eqb}
-use Rattle.std.proofs.Common.{arith, sym, ap, rules}
+use Rattle.std.proofs.Common.{arith, sym}
 use Rattle.std.proofs.Math.Path.{◌∙◌}
 use Rattle.leaves.proofs.if_one.Goals as goal
 

@@ -1,8 +1,7 @@
 use Rattle.base.specs.Arms.{past_from}
-use Rattle.std.specs.Prelude.{refl}
 use Rattle.layout.specs.Did.{did_chosen, did_none_chosen}
 use Rattle.layout.specs.Written.{kept_none}
-use Rattle.std.proofs.Common.{arith, rules}
+use Rattle.std.proofs.Common.{arith}
 use Rattle.leaves.proofs.location.Goals as goal
 
 pub returns-in-0 : goal.returns-in-0

@@ -3,7 +3,6 @@ use Rattle.layout.specs.Did.{◌⨾◌, did_tokens, did_name}
 use Rattle.meaning.specs.Rules.{rule_of, token, sp}
 use mathlib.Core.List.{◌++◌}
 use Rattle.std.specs.Prelude.{refl}
-use Rattle.std.proofs.Common.{rules}
 use Rattle.leaves.proofs.root_operation.Goals as goal
 
 pub returns : goal.returns

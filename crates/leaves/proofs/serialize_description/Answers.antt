@@ -1,5 +1,5 @@
 -- `leaves::serialize_description` meets its contract: no child is next, or it is printed.
-use Rattle.std.proofs.Common.{rules, arith, sym}
+use Rattle.std.proofs.Common.{arith, sym}
 use Rattle.layout.specs.Did.{no_child}
 use Rattle.layout.specs.Written.{kept_none}
 use Rattle.layout.specs.Jobs.{ranged_within}

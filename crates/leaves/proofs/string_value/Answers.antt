@@ -2,7 +2,7 @@
 use Rattle.meaning.specs.Literal.{literal}
 use Rattle.pen.specs.Wrote.{wrote_as}
 use Rattle.std.specs.Prelude.{refl}
-use Rattle.std.proofs.Common.{ap, rules}
+use Rattle.std.proofs.Common.{ap}
 use Rattle.leaves.proofs.string_value.Goals as goal
 
 pub returns : goal.returns

@@ -2,7 +2,6 @@
 use Rattle.layout.specs.Did.{◌⨾◌, did_tokens, did_name}
 use Rattle.meaning.specs.Rules.{rule_of, token}
 use Rattle.std.specs.Prelude.{refl}
-use Rattle.std.proofs.Common.{rules}
 use Rattle.leaves.proofs.variable_value.Goals as goal
 
 pub returns : goal.returns

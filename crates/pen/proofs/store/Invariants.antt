@@ -1,10 +1,9 @@
 -- What is left to store is `bytes` from i on, at the place i further. The loop ends where `bytes` or `out` does, and then storing the
 -- rest changes nothing.
-use Rattle.std.proofs.Math.Path.{◌≡◌, ◌∙◌}
-use Rattle.std.proofs.Common.{sym, arith, rules}
+use Rattle.std.proofs.Math.Path.{◌≡◌}
 use Prim.Native.Nat.{◌≤◌, ◌+◌, ◌-◌}
 use Rattle.std.specs.Prelude.{length, drop}
-use Rattle.pen.specs.Put.{put, store_none, store_one, store_done}
+use Rattle.pen.specs.Put.{put}
 use Rattle.pen.proofs.store.Given as goal
 
 abbrev pub invariant-loop-i : goal.invariant-loop-i

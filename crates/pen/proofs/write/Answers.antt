@@ -1,5 +1,5 @@
 -- Past the end nothing is stored, and before it `store` stores what there is room for; the place goes on by all of `bytes`.
-use Rattle.std.proofs.Common.{sym, arith, rules}
+use Rattle.std.proofs.Common.{sym, arith}
 use Rattle.pen.specs.Put.{put_past}
 use Rattle.pen.proofs.write.Goals as goal
 

@@ -1,5 +1,5 @@
 -- A byte is stored where its place is within `out`; elsewhere nothing is, which is what `put` says past the end.
-use Rattle.std.proofs.Common.{sym, arith, rules}
+use Rattle.std.proofs.Common.{sym, arith}
 use Rattle.pen.specs.Put.{put_one, put_past}
 use Rattle.pen.proofs.write_byte.Goals as goal
 

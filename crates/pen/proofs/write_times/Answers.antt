@@ -1,9 +1,6 @@
 -- What is left to write is `bytes`, as many times as `left` says.
-use Rattle.std.proofs.Math.Path.{◌≡◌}
 use Rattle.std.proofs.Common.{arith, rules}
-use Rattle.std.specs.Prelude.{length}
-use Rattle.meaning.specs.Settings.{times}
-use Rattle.pen.specs.Wrote.{Left, left_all, left_step, left_done, left_as}
+use Rattle.pen.specs.Wrote.{left_all, left_step, left_done, left_as}
 use Rattle.pen.specs.Times.{times_one, times_none}
 use Rattle.pen.proofs.write_times.Goals as goal
 

@@ -1,5 +1,5 @@
 -- The test is the definition's.
-use Rattle.std.proofs.Common.{lt-ltb, le-ltb, rules}
+use Rattle.std.proofs.Common.{lt-ltb, le-ltb}
 use Rattle.meaning.specs.Quoted.{hex_digit}
 use Rattle.quoted.proofs.hex_digit.Goals as goal
 

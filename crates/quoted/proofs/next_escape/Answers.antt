@@ -1,9 +1,6 @@
 -- Up to i every byte passed stands for itself: the run from i on ends where the run from `from` on does.
-use Rattle.std.proofs.Math.Path.{◌≡◌, ◌∙◌}
-use Prim.Native.Nat.{◌+◌, ◌-◌}
-use Rattle.std.specs.Prelude.{length, drop}
-use Rattle.std.proofs.Common.{rules}
-use Rattle.quoted.specs.CleanRun.{clean_run, run_goes_on, run_stops, run_over}
+use Rattle.std.proofs.Math.Path.{◌∙◌}
+use Rattle.quoted.specs.CleanRun.{run_goes_on, run_stops, run_over}
 use Rattle.quoted.proofs.next_escape.Goals as goal
 
 pub returns-then-class_of-ne0 : goal.returns-then-class_of-ne0

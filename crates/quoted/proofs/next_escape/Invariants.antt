@@ -1,9 +1,8 @@
 -- Up to i every byte passed stands for itself: the run from i on ends where the run from `from` on does.
-use Rattle.std.proofs.Math.Path.{◌≡◌, ◌∙◌}
+use Rattle.std.proofs.Math.Path.{◌≡◌}
 use Prim.Native.Nat.{◌+◌, ◌-◌}
 use Rattle.std.specs.Prelude.{length, drop}
-use Rattle.std.proofs.Common.{rules}
-use Rattle.quoted.specs.CleanRun.{clean_run, run_goes_on, run_stops, run_over}
+use Rattle.quoted.specs.CleanRun.{clean_run}
 use Rattle.quoted.proofs.next_escape.Given as goal
 
 abbrev pub invariant-loop-i : goal.invariant-loop-i

@@ -1,10 +1,6 @@
 -- What is left to write is the body of `value` from i on: the run up to the next escape, the escape, and the body behind it.
-use Rattle.std.proofs.Math.Path.{◌≡◌}
-use Prim.Native.Nat.{◌≤◌, ◌-◌}
 use Rattle.std.proofs.Common.{arith, rules}
-use Rattle.std.specs.Prelude.{length, drop}
-use Rattle.meaning.specs.Quoted.{body}
-use Rattle.pen.specs.Wrote.{Left, left_all, left_step, left_done, left_as}
+use Rattle.pen.specs.Wrote.{left_all, left_step, left_done, left_as}
 use Rattle.quoted.specs.CleanRun.{run_within, run_ends, less_left, body_run, body_escape, body_over}
 use Rattle.quoted.proofs.write_body.Goals as goal
 

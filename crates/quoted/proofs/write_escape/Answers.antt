@@ -1,7 +1,6 @@
 -- One array holds the escape, whole, and is written at once: its bytes are what `escaped` says for the byte's class.
 use Rattle.pen.specs.Wrote.{wrote_as}
 use Rattle.quoted.specs.Escapes.{escaped_by_letter, escaped_by_digits}
-use Rattle.std.proofs.Common.{rules}
 use Rattle.quoted.proofs.write_escape.Goals as goal
 
 pub returns-then-letter-ne117 : goal.returns-then-letter-ne117

@@ -1,7 +1,6 @@
 -- A quote, the body, a quote.
 use Rattle.meaning.specs.Quoted.{quoted}
 use Rattle.pen.specs.Wrote.{◌⨾◌}
-use Rattle.std.proofs.Common.{rules}
 use Rattle.quoted.proofs.write_quoted.Goals as goal
 
 pub returns : goal.returns

@@ -2,26 +2,22 @@
 -- depth falls from a node to its children, and within one depth the functions are ranked by who calls whom.
 use Rattle.base.specs.Arms.{past_from, last_of}
 use Rattle.serialize.specs.Kinds.{a_type, no_definition, past_all, no_kind}
-use Rattle.serialize.specs.Walks.{Run, run_all, run_turn, run_over, commas_some, commas_none, braces_some, braces_none, fewer_left, nothing_said}
+use Rattle.serialize.specs.Walks.{run_all, run_turn, run_over, commas_some, commas_none, braces_some, braces_none, fewer_left, nothing_said}
 use Rattle.serialize.specs.Parts.{parts_of_lem, jobs_kept, jobs_walked, one_done, jobs_deeper, jobs_single, jobs_lines, did_one, did_spaced, did_braces, did_commas, did_single_line, did_lines}
 use Rattle.types.specs.TypeJob.{type_job}
 use Rattle.layout.specs.Child.{no_one}
 use Rattle.layout.specs.Did.{◌⨾◌, did_tokens, did_name, did_literal, a_child, no_child, node_written}
 use Rattle.layout.specs.Jobs.{rest_within, rest_inside, rest_ranged, node_in_table, first_job, here, job_in_table, job_text, job_deep}
-use Rattle.layout.specs.Written.{under, gap_text, kept_none}
-use Rattle.layout.specs.Kids.{kids}
-use Rattle.layout.specs.Classes.{meant}
+use Rattle.layout.specs.Written.{kept_none}
 use Rattle.pen.specs.Wrote.{wrote_as, wrote_none, wrote_length, left_length}
 use Rattle.meaning.specs.Rules.{single_line, single_line_unless_marked, comma_separated, curly_brackets, token, sp, child, rule_of}
 use Rattle.meaning.specs.Children.{a as of_kind, type, value}
 use Rattle.meaning.specs.Settings.{default_settings}
 use Rattle.meaning.specs.Ascii.{ascii}
-use Rattle.std.proofs.Common.{rules, arith, sym, ap}
-use Rattle.std.specs.Prelude.{length, true, false, refl}
-use Prim.Native.Nat.{◌+◌, ◌-◌, ◌*◌}
-use mathlib.Core.List.{List, [], ◌∷◌, ◌++◌}
-use Rattle.std.proofs.Math.Path.{◌≡◌, ◌∙◌}
-use Prim.Native.Nat.{ℕ, ◌<◌}
+use Rattle.std.proofs.Common.{arith, sym, ap}
+use Rattle.std.specs.Prelude.{true, false, refl}
+use mathlib.Core.List.{[], ◌∷◌, ◌++◌}
+use Rattle.std.proofs.Math.Path.{◌∙◌}
 use Rattle.serialize.proofs.+tree.Goals as goal
 
 pub argument-name-a-requires : goal.argument-name-a-requires

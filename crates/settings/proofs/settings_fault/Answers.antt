@@ -1,6 +1,5 @@
 -- `settings::settings_fault` meets its contract: each test of the rule, in order.
-use Rattle.base.specs.Bools.{not_true, not_false}
-use Rattle.std.proofs.Common.{sym, rules}
+use Rattle.std.proofs.Common.{sym}
 use Rattle.std.proofs.Math.Path.{◌∙◌}
 use Rattle.settings.specs.Faults.{prefix_too_long, prefix_not_blank, level_tells}
 use Rattle.settings.proofs.settings_fault.Goals as goal

@@ -1,6 +1,5 @@
 -- `table::end` meets its contract: which word it is.
 use Rattle.table.specs.Words.{small_as, end_word}
-use Rattle.std.proofs.Common.{rules}
 use Rattle.table.proofs.end.Goals as goal
 
 pub returns : goal.returns

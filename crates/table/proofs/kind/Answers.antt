@@ -1,6 +1,5 @@
 -- `table::kind` meets its contract: which word it is.
 use Rattle.table.specs.Words.{small_as, kind_word}
-use Rattle.std.proofs.Common.{rules}
 use Rattle.table.proofs.kind.Goals as goal
 
 pub returns : goal.returns

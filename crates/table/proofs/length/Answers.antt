@@ -1,6 +1,5 @@
 -- `table::length` meets its contract: which word it is.
 use Rattle.table.specs.Words.{small_as, length_word}
-use Rattle.std.proofs.Common.{rules}
 use Rattle.table.proofs.length.Goals as goal
 
 pub returns : goal.returns

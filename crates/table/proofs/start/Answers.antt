@@ -1,6 +1,5 @@
 -- `table::start` meets its contract: which word it is.
 use Rattle.table.specs.Words.{small_as, start_word}
-use Rattle.std.proofs.Common.{rules}
 use Rattle.table.proofs.start.Goals as goal
 
 pub returns : goal.returns

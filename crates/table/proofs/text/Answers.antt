@@ -2,7 +2,7 @@
 use Rattle.std.proofs.Math.Path.{◌≡◌}
 use Rattle.std.specs.Prelude.{List, take, drop}
 use Prim.Native.Nat.{ℕ, ◌+◌, ◌-◌}
-use Rattle.std.proofs.Common.{arith, rules}
+use Rattle.std.proofs.Common.{arith}
 use Rattle.meaning.specs.Table.{text_at}
 use Rattle.table.proofs.text.Goals as goal
 

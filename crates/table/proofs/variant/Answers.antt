@@ -1,6 +1,5 @@
 -- `table::variant` meets its contract: which word it is.
 use Rattle.table.specs.Words.{small_as, variant_word}
-use Rattle.std.proofs.Common.{rules}
 use Rattle.table.proofs.variant.Goals as goal
 
 pub returns : goal.returns

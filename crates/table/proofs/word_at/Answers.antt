@@ -1,7 +1,7 @@
 -- `table::word_at` meets its contract: a word of the slice is a number of 32 bits.
 use Rattle.std.specs.Prelude.{refl}
 use Prim.Native.Nat.{◌+◌, ◌*◌}
-use Rattle.std.proofs.Common.{arith, rules}
+use Rattle.std.proofs.Common.{arith}
 use Rattle.table.specs.Words.{word_read}
 use Rattle.table.proofs.word_at.Goals as goal
 

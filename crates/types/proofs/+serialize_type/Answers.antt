@@ -4,10 +4,8 @@ use Rattle.meaning.specs.Settings.{default_settings}
 use Rattle.pen.specs.Wrote.{wrote_length}
 use Rattle.meaning.specs.Rules.{token}
 use Rattle.std.proofs.Common.{arith, sym}
-use Prim.Native.Nat.{◌+◌, ◌-◌}
 use Rattle.std.specs.Prelude.{refl}
 use Rattle.std.proofs.Math.Path.{◌∙◌}
-use Prim.Native.Nat.{ℕ, ◌<◌}
 use Rattle.types.proofs.+serialize_type.Goals as goal
 
 pub overflow_add-inner : goal.overflow_add-inner
