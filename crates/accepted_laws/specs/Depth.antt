@@ -1,12 +1,11 @@
 -- The tree of an accepted table is at most 65 nodes high: a child is deeper than its parent, since whatever is above the parent is above
 -- the child and so is the parent, and no node is deeper than 64.
-use Rattle.std.specs.Prelude.{◌≡◌, refl, Bool, true, false, List, ltb}
+use Rattle.std.specs.Prelude.{◌≡◌, refl, Bool, true, false, List, ltb, if◌then◌else◌}
 use Rattle.std.proofs.Common.{⊎_elim, le_refl, le_trans, eq-or-lt_of_le, lt-ltb, ltb-true}
 use Prim.Native.Nat.{ℕ, zero, suc, ◌+◌, ◌-◌, ◌≤◌, ◌<◌}
 use native.Mathlib.Omega.{arith}
 use Rattle.std.proofs.Math.Decide.{dec_lt}
 use Rattle.base.specs.Bools.{clash, and_right, and_both}
-use Rattle.meaning.specs.Ascii.{if◌then◌else◌}
 use Rattle.meaning.specs.First.{count}
 use Rattle.meaning.specs.Table.{nodes, end_at, forest, tree_at, tree_of}
 use Rattle.meaning.specs.Refusals.{is_above, depth_at, Accepted}

@@ -1,6 +1,6 @@
 -- No definition, and no document, stands below any node other than the Document: every child is of a class of its parent's row, and no
 -- row but the Document's has a class with a kind below 18. Children of children go the same way down.
-use Rattle.std.specs.Prelude.{◌≡◌, Bool, ◌&&◌, ◌||◌, ℕ, zero, suc, ◌+◌, ◌-◌, ◌≤◌, ◌<◌, eqb, ltb}
+use Rattle.std.specs.Prelude.{◌≡◌, Bool, ◌&&◌, ◌||◌, ℕ, zero, suc, ◌+◌, ◌-◌, ◌≤◌, ◌<◌, eqb, ltb, if◌then◌else◌}
 use Rattle.std.proofs.Math.Path.{refl}
 use Rattle.std.proofs.Math.Bool.{true, false}
 use mathlib.Core.List.{List, [], ◌∷◌}
@@ -8,7 +8,6 @@ use Rattle.std.proofs.Common.{arith, lt-ltb, ltb-true, leb-true, eqb-true, ne_eq
 use Rattle.std.proofs.Math.Decide.{dec_lt}
 use Rattle.base.specs.Bools.{clash, and_left, and_right, or_left_false, not_false}
 use Rattle.base.specs.Finite.{below}
-use Rattle.meaning.specs.Ascii.{if◌then◌else◌}
 use Rattle.meaning.specs.Kind
 use Rattle.meaning.specs.Table.{nodes, kind_at, variant_at, end_at, siblings, children_at}
 use Rattle.meaning.specs.Children.{Class, a, definition, selection, type, value, named_type, from◌to◌, is_in, Slot, one, opt, any, some, row_of, past, fill}

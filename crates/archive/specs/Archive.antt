@@ -1,7 +1,6 @@
 -- docs/JOBS.md: the archive text of a table file is its table's document under the default settings. The file's refusals, 20 and 21, go before
 -- document 01's.
-use Rattle.std.specs.Prelude.{List, ℕ, ltb, length, take, drop}
-use Rattle.meaning.specs.Ascii.{if◌then◌else◌}
+use Rattle.std.specs.Prelude.{List, ℕ, ltb, length, take, drop, if◌then◌else◌}
 use Rattle.meaning.specs.Settings.{default_settings}
 use Rattle.meaning.specs.Answers.{Answer, answer}
 use Rattle.meaning.specs.Entries.{Outcome, refusing, printed_document}

@@ -1,9 +1,9 @@
 -- The lines of a value by the places of its line feeds: up to the first stands the first line, and behind it stand the others.
-use Rattle.std.specs.Prelude.{◌≡◌, refl, Bool, true, false, List, [], ◌∷◌, ℕ, suc, ◌+◌, ◌-◌, ◌≤◌, ◌<◌, eqb, take, drop}
+use Rattle.std.specs.Prelude.{◌≡◌, refl, Bool, true, false, List, [], ◌∷◌, ℕ, suc, ◌+◌, ◌-◌, ◌≤◌, ◌<◌, eqb, take, drop, if◌then◌else◌}
 use Rattle.std.proofs.Common.{◌∙◌, drop_of_length-le, drop-drop}
 use native.Mathlib.Omega.{arith}
 use Rattle.std.proofs.Math.ListN.{length}
-use Rattle.meaning.specs.Ascii.{if◌then◌else◌, line_feed}
+use Rattle.meaning.specs.Ascii.{line_feed}
 use Rattle.meaning.specs.Block.{onto, lines}
 use Rattle.pen.specs.Lists.{drop_one}
 use Rattle.block.specs.Places.{up_to, byte_that, is, First}

@@ -1,9 +1,9 @@
 -- Places found in a value: how far it is to the first place where a test of what follows holds, and what a walk towards it keeps.
-use Rattle.std.specs.Prelude.{◌≡◌, refl, Bool, true, false, not, ◌||◌, List, [], ◌∷◌, ℕ, zero, suc, ◌+◌, ◌-◌, ◌≤◌, ◌<◌, eqb, length, take, drop, get_or}
+use Rattle.std.specs.Prelude.{◌≡◌, refl, Bool, true, false, not, ◌||◌, List, [], ◌∷◌, ℕ, zero, suc, ◌+◌, ◌-◌, ◌≤◌, ◌<◌, eqb, length, take, drop, get_or, if◌then◌else◌}
 use Rattle.std.proofs.Common.{sym, ◌∙◌, arith, length-drop, drop_of_length-le, drop-drop}
 use Rattle.std.proofs.Math.Bool.{or-false, or_assoc}
 use Rattle.base.specs.Bools.{clash, or_left_false, or_right_false}
-use Rattle.meaning.specs.Ascii.{if◌then◌else◌, line_feed, carriage_return}
+use Rattle.meaning.specs.Ascii.{line_feed, carriage_return}
 use Rattle.meaning.specs.Settings.{is_blank}
 use Rattle.meaning.specs.Block.{has}
 use Rattle.pen.specs.Lists.{drop_one}

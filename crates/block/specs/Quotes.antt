@@ -1,10 +1,10 @@
 -- Three quotes at a place of a line, and the line escaped up to there.
-use Rattle.std.specs.Prelude.{◌≡◌, refl, Bool, true, false, List, [], ◌∷◌, ◌++◌, ℕ, zero, suc, ◌+◌, ◌-◌, ◌≤◌, ◌<◌, take, drop, get_or}
+use Rattle.std.specs.Prelude.{◌≡◌, refl, Bool, true, false, List, [], ◌∷◌, ◌++◌, ℕ, zero, suc, ◌+◌, ◌-◌, ◌≤◌, ◌<◌, take, drop, get_or, if◌then◌else◌}
 use Rattle.std.proofs.Common.{◌∙◌, length-drop, drop_of_length-le}
 use native.Mathlib.Omega.{arith}
 use Rattle.std.proofs.Math.ListN.{length}
 use Rattle.std.proofs.Math.Seq.{drop-drop}
-use Rattle.meaning.specs.Ascii.{if◌then◌else◌, quote, backslash, triple_quote}
+use Rattle.meaning.specs.Ascii.{quote, backslash, triple_quote}
 use Rattle.meaning.specs.Block.{three_quotes, line_after, escaped_line}
 use Rattle.literal_laws.specs.Quotes.{no_quote_no_three, three_quotes_are_long}
 use Rattle.pen.specs.Lists.{drop_one}

@@ -1,12 +1,12 @@
 -- The block rule a line at a time: what it asks of the lines that are left, given whether one before them begins with text. The least
 -- indent of lines that are not all blank is 0 exactly if some line begins with text.
-use Rattle.std.specs.Prelude.{◌≡◌, Bool, ◌&&◌, ◌||◌, List, [], ◌∷◌, ℕ, zero, suc, min, eqb}
+use Rattle.std.specs.Prelude.{◌≡◌, Bool, ◌&&◌, ◌||◌, List, [], ◌∷◌, ℕ, zero, suc, min, eqb, if◌then◌else◌}
 use Rattle.std.proofs.Math.Path.{refl}
 use Rattle.std.proofs.Common.{sym, ◌∙◌, arith, eq-eqb, ne_eqb}
 use Rattle.std.proofs.Math.Bool.{true, false, not, or-false, or_assoc}
 use Rattle.std.proofs.Math.Option.{Option, none, some}
 use Rattle.base.specs.Bools.{clash, and_false}
-use Rattle.meaning.specs.Ascii.{if◌then◌else◌, carriage_return}
+use Rattle.meaning.specs.Ascii.{carriage_return}
 use Rattle.meaning.specs.Settings.{is_blank, blank}
 use Rattle.meaning.specs.Block.{lines, first_line, last_line, indent, lesser, common_indent, has, is_zero, can_be_block_string}
 use Rattle.literal_laws.specs.Lines.{Some, there_is_a_line}

@@ -1,12 +1,12 @@
 -- The block rule by places: a line runs from its start to the next line end; it is blank if its first text is its end, and begins with
 -- text if its first text is its start. Blanks are no line ends, so the end is looked for behind them.
-use Rattle.std.specs.Prelude.{◌≡◌, refl, Bool, true, false, not, ◌&&◌, ◌||◌, List, [], ◌∷◌, ℕ, suc, ◌+◌, ◌-◌, ◌≤◌, ◌<◌, eqb, length, take, drop, get_or}
+use Rattle.std.specs.Prelude.{◌≡◌, refl, Bool, true, false, not, ◌&&◌, ◌||◌, List, [], ◌∷◌, ℕ, suc, ◌+◌, ◌-◌, ◌≤◌, ◌<◌, eqb, length, take, drop, get_or, if◌then◌else◌}
 use Rattle.std.proofs.Common.{sym, ap, ◌∙◌, arith, drop_of_length-le, drop-drop, eqb-true, eq-eqb, ne_eqb}
 use Rattle.std.proofs.Math.Bool.{and_comm}
 use Rattle.std.proofs.Math.Dec.{eqb-zero-suc, eqb-suc-zero, eqb-suc-suc}
 use Rattle.std.proofs.lemmas.Bool.{eqb-false}
 use Rattle.base.specs.Bools.{clash, and_false}
-use Rattle.meaning.specs.Ascii.{if◌then◌else◌, line_feed, carriage_return}
+use Rattle.meaning.specs.Ascii.{line_feed, carriage_return}
 use Rattle.meaning.specs.Settings.{is_blank, blank}
 use Rattle.meaning.specs.Block.{has}
 use Rattle.literal_laws.specs.BlockText.{blank_is_no_other}

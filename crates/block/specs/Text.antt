@@ -1,8 +1,8 @@
 -- The text of a block string in the order in which it is written, and when it stands on several lines.
-use Rattle.std.specs.Prelude.{◌≡◌, refl, Bool, true, false, ◌||◌, List, [], ◌∷◌, ◌++◌, ℕ, suc, ◌+◌, ◌-◌, ◌≤◌, ◌<◌, eqb, length, take, drop, get_or}
+use Rattle.std.specs.Prelude.{◌≡◌, refl, Bool, true, false, ◌||◌, List, [], ◌∷◌, ◌++◌, ℕ, suc, ◌+◌, ◌-◌, ◌≤◌, ◌<◌, eqb, length, take, drop, get_or, if◌then◌else◌}
 use Rattle.std.proofs.Common.{◌∙◌, append_assoc, arith, lt-ltb, le-ltb}
 use Rattle.std.proofs.Math.Bool.{or-true}
-use Rattle.meaning.specs.Ascii.{if◌then◌else◌, line_feed, quote, backslash, triple_quote}
+use Rattle.meaning.specs.Ascii.{line_feed, quote, backslash, triple_quote}
 use Rattle.meaning.specs.Block.{lines, has, last_byte, multi_line, escaped_line, block_line, block_lines, block_string}
 use Rattle.block.specs.Places.{byte_that, is, First}
 use Rattle.block.specs.ByLine.{one_line_left, more_lines_left}

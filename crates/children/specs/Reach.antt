@@ -1,6 +1,5 @@
 -- How far constant nodes reach: one number, kept from node to node.
-use Rattle.std.specs.Prelude.{ℕ, Bool, ◌&&◌, List, ltb}
-use Rattle.meaning.specs.Ascii.{if◌then◌else◌}
+use Rattle.std.specs.Prelude.{ℕ, Bool, ◌&&◌, List, ltb, if◌then◌else◌}
 use Rattle.meaning.specs.First.{some}
 use Rattle.meaning.specs.Table.{kind_at}
 use Rattle.meaning.specs.Refusals.{is_constant, is_above}

@@ -1,6 +1,5 @@
 -- The states of the walk over children, by number; what the walk's table has to say of them.
-use Rattle.std.specs.Prelude.{ℕ, ◌+◌, ◌*◌, ◌<◌, ◌≡◌, ◌&&◌, List, [], ◌∷◌, ◌++◌, map, eqb, get_or}
-use Rattle.meaning.specs.Ascii.{if◌then◌else◌}
+use Rattle.std.specs.Prelude.{ℕ, ◌+◌, ◌*◌, ◌<◌, ◌≡◌, ◌&&◌, List, [], ◌∷◌, ◌++◌, map, eqb, get_or, if◌then◌else◌}
 use Rattle.meaning.specs.Kind
 use Rattle.meaning.specs.Children.{a, selection, type, value, is_in, one, opt, any, some, directives, rows}
 use Rattle.children.specs.Walk.{Left, stuck, left, after, done}

@@ -1,6 +1,5 @@
 -- Children matched one at a time: what a child leaves of the slots. That this is `fill` is shown in `proofs/Walk.antt`.
-use Rattle.std.specs.Prelude.{Bool, true, false, List, [], ◌∷◌}
-use Rattle.meaning.specs.Ascii.{if◌then◌else◌}
+use Rattle.std.specs.Prelude.{Bool, true, false, List, [], ◌∷◌, if◌then◌else◌}
 use Rattle.meaning.specs.Children.{Class, Slot, one, opt, any, some, fill}
 
 -- the slots that are left; or no children can fit any more

@@ -1,9 +1,8 @@
 -- Document 01, "What every public entry owes": "any two answers allowed by the statement are shown equal". A promise fixes the number,
 -- place and length of an answer; these tell the answer itself, because each can be read back from them.
-use Rattle.std.specs.Prelude.{◌≡◌, refl, false, eqb}
+use Rattle.std.specs.Prelude.{◌≡◌, refl, false, eqb, if◌then◌else◌}
 use Rattle.std.proofs.Common.{sym, ap, ◌∙◌}
 use Rattle.std.proofs.Math.Option.{Option, none, some}
-use Rattle.meaning.specs.Ascii.{if◌then◌else◌}
 use Rattle.meaning.specs.Reading.{Form as FormRead, quoted_form, block_form}
 use Rattle.meaning.specs.Answers.{Answer, refusal_answer, checked_answer, printed_answer, reading_answer}
 use Rattle.meaning.specs.declared.Refusal.{Refusal}

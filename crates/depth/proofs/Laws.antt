@@ -1,6 +1,6 @@
 -- The nodes above node i are those before it that end at i or later, less those that end at i; both numbers are kept from node to node.
 use Rattle.std.proofs.Math.Path.{◌≡◌, refl, ◌∙◌, ap}
-use Rattle.std.proofs.Common.{sym, not-suc-le-zero, add-one}
+use Rattle.std.proofs.Common.{sym, not-suc-le-zero, add-one, if◌then◌else◌}
 use Rattle.std.proofs.Math.Logic.{⊎_elim}
 use Rattle.std.specs.Prelude.{Bool, true, false, List, ltb, length, set}
 use Rattle.std.proofs.Math.Bool.{◌&&◌}
@@ -13,7 +13,6 @@ use Rattle.std.proofs.Math.ListN.{get_or, length-set}
 use Rattle.std.proofs.Math.Seq.{get_or-set_same, get_or-set_other}
 use borrow.Author.Tests.{lt-ltb, le-ltb, le-leb, lt-leb, eq-eqb, ne_eqb, eqb-true, eqb-false}
 use borrow.Author.Count.{below_more}
-use Rattle.meaning.specs.Ascii.{if◌then◌else◌}
 use Rattle.meaning.specs.First.{first, count}
 use Rattle.meaning.specs.Table.{end_at}
 use Rattle.meaning.specs.Refusals.{is_above, depth_at, deepest, depth_fault}

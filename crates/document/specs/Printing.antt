@@ -1,12 +1,11 @@
 -- What printing a document answers, by where it stops: what the check refuses, an output that is too short, or the text itself.
-use Rattle.std.specs.Prelude.{◌≡◌, Bool, eqb, length}
+use Rattle.std.specs.Prelude.{◌≡◌, Bool, eqb, length, if◌then◌else◌}
 use Rattle.std.proofs.Math.Path.{refl, ap}
 use Rattle.std.proofs.Common.{sym, ◌∙◌, inl, inr, arith}
 use Rattle.std.proofs.Math.Bool.{true, false}
 use mathlib.Core.List.{List, []}
 use Prim.Native.Nat.{ℕ, ◌≤◌, ◌<◌}
 use Rattle.base.specs.Bools.{clash}
-use Rattle.meaning.specs.Ascii.{if◌then◌else◌}
 use Rattle.meaning.specs.Settings.{Settings, settings, document_levels, settings_fault}
 use Rattle.meaning.specs.Table.{tree_of}
 use Rattle.meaning.specs.Refusals.{Verdict, accepted, refusal, verdict, has_fault, Accepted, Right}

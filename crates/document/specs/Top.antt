@@ -1,8 +1,8 @@
 -- The definitions of an accepted table: what printing each of them asks, and the document's text, a definition at a time.
-use Rattle.std.specs.Prelude.{◌≡◌, Bool, true, false, List, [], ◌∷◌, ◌++◌, ℕ, ◌-◌, ◌≤◌, ◌<◌}
+use Rattle.std.specs.Prelude.{◌≡◌, Bool, true, false, List, [], ◌∷◌, ◌++◌, ℕ, ◌-◌, ◌≤◌, ◌<◌, if◌then◌else◌}
 use Rattle.std.proofs.Math.Path.{refl, sym, ap}
 use Rattle.std.proofs.Common.{arith}
-use Rattle.meaning.specs.Ascii.{if◌then◌else◌, line_feed, space}
+use Rattle.meaning.specs.Ascii.{line_feed, space}
 use Rattle.meaning.specs.Settings.{Settings, settings, new_line, indentation, times}
 use Rattle.meaning.specs.Table.{nodes, kind_at, end_at, head_at, forest, tree_at, tree_of}
 use Rattle.meaning.specs.Refusals.{Accepted}

@@ -1,11 +1,10 @@
 -- Printing a document asks for the output's length only once there is a text: a refusal other than 8 is the same for every output. So
 -- what holds of any text that is written holds of documents.
 use Prim.Native.Nat.{ℕ, ◌≤◌}
-use Rattle.std.specs.Prelude.{◌≡◌, refl, Bool, true, false, length}
+use Rattle.std.specs.Prelude.{◌≡◌, refl, Bool, true, false, length, if◌then◌else◌}
 use Rattle.std.proofs.Common.{inl, inr, arith}
 use mathlib.Core.List.{List}
 use Rattle.base.specs.Bools.{clash}
-use Rattle.meaning.specs.Ascii.{if◌then◌else◌}
 use Rattle.meaning.specs.Table.{tree_of}
 use Rattle.meaning.specs.Settings.{Settings, document_levels, settings_fault}
 use Rattle.meaning.specs.Refusals.{Verdict, accepted, refusal, verdict, has_fault, Right}

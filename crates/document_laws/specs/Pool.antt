@@ -1,12 +1,11 @@
 -- Document 01: "Pool bytes that no node names never matter: equal-length pools agreeing on all named ranges give equal answers", for
 -- printing. The verdicts are equal, and a table that is accepted stands for one tree, which holds nothing of a pool but those ranges.
 use Prim.Native.Nat.{ℕ, zero, suc, ◌+◌, ◌-◌, ◌≤◌, ◌<◌}
-use Rattle.std.specs.Prelude.{◌≡◌, Bool, true, false, List, length}
+use Rattle.std.specs.Prelude.{◌≡◌, Bool, true, false, List, length, if◌then◌else◌}
 use Rattle.std.proofs.Math.Path.{refl}
 use native.Mathlib.Omega.{arith}
 use Rattle.std.proofs.Math.Decide.{dec_lt}
 use Rattle.std.proofs.Common.{lt-ltb, le-ltb}
-use Rattle.meaning.specs.Ascii.{if◌then◌else◌}
 use Rattle.meaning.specs.Table.{nodes, text_at, end_at, head_at, forest_in, forest, tree_at, tree_of}
 use Rattle.meaning.specs.Settings.{Settings, document_levels, settings_fault}
 use Rattle.meaning.specs.Refusals.{Accepted, Verdict, accepted, refusal, verdict, Right}

@@ -1,6 +1,6 @@
 -- A printing function does a part of a rule, or some parts one after the other: it writes their text and leaves the walk at the child
 -- that they leave. Functions one after the other do their parts one after the other, and the parts of a kind's rule are its text.
-use Rattle.std.specs.Prelude.{◌≡◌, Bool, false, ◌&&◌, leb, eqb, length, get_or}
+use Rattle.std.specs.Prelude.{◌≡◌, Bool, false, ◌&&◌, leb, eqb, length, get_or, if◌then◌else◌}
 use Rattle.std.proofs.Math.Path.{refl, sym, ap}
 use Rattle.std.proofs.Common.{subst, ◌∙◌, arith, length-append, leb-true, le-leb}
 use Rattle.std.proofs.Math.Bool.{true}
@@ -9,7 +9,7 @@ use Prim.Native.Nat.{ℕ, zero, suc, ◌+◌, ◌≤◌}
 use Rattle.std.proofs.Math.Decide.{dec_lt}
 use Rattle.std.proofs.Math.ListN.{get_or-eq_default}
 use Rattle.base.specs.Bools.{clash, and_left, and_right, and_both}
-use Rattle.meaning.specs.Ascii.{if◌then◌else◌, space as a_space}
+use Rattle.meaning.specs.Ascii.{space as a_space}
 use Rattle.meaning.specs.Settings.{Settings, settings, new_line_or_space as line_or_space}
 use Rattle.meaning.specs.Literal.{literal as literal_text}
 use Rattle.meaning.specs.Tree.{Head}

@@ -1,7 +1,7 @@
 -- What the small writers write, and that they leave the walk where it stands.
-use Rattle.std.specs.Prelude.{◌≡◌, refl, Bool, true, false, List, [], ◌∷◌, ◌++◌, ℕ}
+use Rattle.std.specs.Prelude.{◌≡◌, refl, Bool, true, false, List, [], ◌∷◌, ◌++◌, ℕ, if◌then◌else◌}
 use Rattle.std.proofs.Common.{◌∙◌}
-use Rattle.meaning.specs.Ascii.{if◌then◌else◌, ascii, line_feed}
+use Rattle.meaning.specs.Ascii.{ascii, line_feed}
 use Rattle.meaning.specs.Settings.{Settings, settings, times, new_line, new_line_or_space, indentation}
 use Rattle.meaning.specs.Table.{end_at}
 use Rattle.table.specs.Words.{InTable}

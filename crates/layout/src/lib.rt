@@ -1,8 +1,7 @@
 // What the printer of every kind is made of: tokens, texts, new lines, and a look at the children ahead.
 #![tactic(auto)]
 
-ghost use Rattle.std.specs.Prelude.{◌≡◌, List, ℕ, ◌<◌};
-ghost use Rattle.meaning.specs.Ascii.{if◌then◌else◌};
+ghost use Rattle.std.specs.Prelude.{◌≡◌, List, ℕ, ◌<◌, if◌then◌else◌};
 ghost use Rattle.meaning.specs.Settings.{new_line, new_line_or_space, deeper, on_single_line};
 ghost use Rattle.meaning.specs.Table.{text_at};
 ghost use Rattle.meaning.specs.Children.{a, selection, value, is_in};

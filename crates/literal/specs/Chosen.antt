@@ -1,9 +1,9 @@
 -- The literal once its form is chosen, and whether it fits.
-use Rattle.std.specs.Prelude.{◌≡◌, refl, Bool, true, false, not, ◌&&◌, ◌||◌, List, ℕ, ◌+◌, ◌*◌, ◌≤◌, ◌<◌, leb, length}
+use Rattle.std.specs.Prelude.{◌≡◌, refl, Bool, true, false, not, ◌&&◌, ◌||◌, List, ℕ, ◌+◌, ◌*◌, ◌≤◌, ◌<◌, leb, length, if◌then◌else◌}
 use Rattle.std.proofs.Common.{arith, mul-le-mul, le-leb}
 use Rattle.std.proofs.lemmas.Bool.{lt-leb}
 use Rattle.base.specs.Bools.{clash, not_true, not_false}
-use Rattle.meaning.specs.Ascii.{if◌then◌else◌, line_feed}
+use Rattle.meaning.specs.Ascii.{line_feed}
 use Rattle.meaning.specs.Settings.{settings, times}
 use Rattle.meaning.specs.Quoted.{quoted}
 use Rattle.meaning.specs.Block.{has, can_be_block_string, block_string}

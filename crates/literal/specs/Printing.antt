@@ -1,10 +1,9 @@
 -- What printing a literal answers, by where it stops: each refusal in the order of the numbers, then the literal itself.
-use Rattle.std.specs.Prelude.{◌≡◌, refl, Bool, true, false, not, List, ℕ, ◌≤◌, ◌<◌, leb, length}
+use Rattle.std.specs.Prelude.{◌≡◌, refl, Bool, true, false, not, List, ℕ, ◌≤◌, ◌<◌, leb, length, if◌then◌else◌}
 use Rattle.std.proofs.Math.Path.{sym}
 use Rattle.std.proofs.Common.{◌∙◌, arith}
 use borrow.Author.Tests.{lt-ltb, le-ltb, leb-true, leb-false}
 use Rattle.base.specs.Bools.{not_true, not_false}
-use Rattle.meaning.specs.Ascii.{if◌then◌else◌}
 use Rattle.meaning.specs.Utf8.{utf8}
 use Rattle.meaning.specs.Settings.{Settings, literal_levels, settings_fault}
 use Rattle.meaning.specs.Literal.{literal}

@@ -1,9 +1,9 @@
 -- The block form of n bytes with f line feeds, under an indentation of l bytes, has at most n + n/3 + 8 + (f + 2)l bytes: an escape
 -- adds one byte to three, a line one LF and one indentation, and the ends are two times three quotes, a LF and an indentation.
-use Rattle.std.specs.Prelude.{◌≡◌, refl, Bool, true, List, [], ◌∷◌, ◌++◌, ℕ, zero, suc, ◌+◌, ◌*◌, ◌≤◌, eqb, length}
+use Rattle.std.specs.Prelude.{◌≡◌, refl, Bool, true, List, [], ◌∷◌, ◌++◌, ℕ, zero, suc, ◌+◌, ◌*◌, ◌≤◌, eqb, length, if◌then◌else◌}
 use Rattle.std.proofs.Math.Bool.{false}
 use Rattle.std.proofs.Common.{suc-mul, add-mul, arith, length-append}
-use Rattle.meaning.specs.Ascii.{if◌then◌else◌, line_feed, backslash, triple_quote}
+use Rattle.meaning.specs.Ascii.{line_feed, backslash, triple_quote}
 use Rattle.meaning.specs.Block.{onto, lines, multi_line, three_quotes, line_after, escaped_line, block_line, block_lines, block_string}
 use Rattle.meaning.specs.Demand.{line_feeds, block_bound}
 use Rattle.literal_laws.specs.Lines.{Some, there_is_a_line}

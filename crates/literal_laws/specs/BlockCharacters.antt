@@ -1,13 +1,13 @@
 -- The characters of block text: a line as it is escaped reads as the line, since each three quotes in it became one character and no
 -- three quotes are left; and bytes that are neither quote nor backslash stand for themselves.
-use Rattle.std.specs.Prelude.{◌≡◌, Bool, true, not, ◌&&◌, List, [], ◌∷◌, ◌++◌, ℕ, zero, suc, eqb, drop}
+use Rattle.std.specs.Prelude.{◌≡◌, Bool, true, not, ◌&&◌, List, [], ◌∷◌, ◌++◌, ℕ, zero, suc, eqb, drop, if◌then◌else◌}
 use Rattle.std.proofs.Math.Path.{refl}
 use Rattle.std.proofs.Common.{sym, ap, ◌∙◌}
 use Rattle.std.proofs.Math.Bool.{false}
 use Rattle.std.proofs.Math.Option.{Option, some}
 use Rattle.std.proofs.Math.Seq.{drop-nil}
 use Rattle.base.specs.Bools.{clash, and_left, and_right, and_both, and_false, not_true}
-use Rattle.meaning.specs.Ascii.{if◌then◌else◌, quote, backslash, triple_quote}
+use Rattle.meaning.specs.Ascii.{quote, backslash, triple_quote}
 use Rattle.meaning.specs.Block.{three_quotes, line_after}
 use Rattle.meaning.specs.Reading.{character, block_front, prepend, characters}
 use Rattle.literal_laws.specs.Quotes.{quote_first, quotes, three_quotes_counted, no_quotes, no_quote_no_three, three_quotes_are}

@@ -1,10 +1,10 @@
 -- Block text is read by the specification's BlockStringCharacter: the front of block text looks for `"""`, then for `\"""`, and takes
 -- any other byte as it is.
-use Rattle.std.specs.Prelude.{◌≡◌, refl, ◌↔◌, Bool, true, false, ◌&&◌, List, [], ◌∷◌, ◌++◌, ℕ, eqb, drop}
+use Rattle.std.specs.Prelude.{◌≡◌, refl, ◌↔◌, Bool, true, false, ◌&&◌, List, [], ◌∷◌, ◌++◌, ℕ, eqb, drop, if◌then◌else◌}
 use Rattle.std.proofs.Common.{sym, ap, ◌∙◌, eqb-true}
 use Rattle.std.proofs.Math.Option.{some}
 use Rattle.base.specs.Bools.{and_left, and_right}
-use Rattle.meaning.specs.Ascii.{if◌then◌else◌, backslash, triple_quote}
+use Rattle.meaning.specs.Ascii.{backslash, triple_quote}
 use Rattle.meaning.specs.Block.{three_quotes}
 use Rattle.meaning.specs.Reading.{Front, character, closing, block_front, prepend, characters}
 use Rattle.literal_laws.specs.Quotes.{three_quotes_are}

@@ -1,9 +1,9 @@
 -- The block form of a value that keeps the block rule reads back, whether on one line or on several: its text is read as the raw
 -- text that was meant, and the block value of that is the value.
-use Rattle.std.specs.Prelude.{◌≡◌, refl, Bool, true, false, ◌||◌, List, [], ◌∷◌, ◌++◌, ℕ, eqb, ltb, length}
+use Rattle.std.specs.Prelude.{◌≡◌, refl, Bool, true, false, ◌||◌, List, [], ◌∷◌, ◌++◌, ℕ, eqb, ltb, length, if◌then◌else◌}
 use Rattle.std.proofs.Math.Option.{some}
 use Rattle.base.specs.Bools.{or_left_false, or_right_false}
-use Rattle.meaning.specs.Ascii.{if◌then◌else◌, line_feed, quote, backslash, triple_quote}
+use Rattle.meaning.specs.Ascii.{line_feed, quote, backslash, triple_quote}
 use Rattle.meaning.specs.Settings.{blank}
 use Rattle.meaning.specs.Block.{lines, has, can_be_block_string, last_byte, multi_line, escaped_line, block_lines, block_string, block_string_value}
 use Rattle.meaning.specs.Reading.{value, block_form, string_value}

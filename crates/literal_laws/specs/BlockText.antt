@@ -1,12 +1,12 @@
 -- The block form between its quotes reads as raw text: the lines, each after LF and its indentation, and in the end LF and the
 -- indentation; or, on one line, the value, which then ends in neither quote nor backslash.
-use Rattle.std.specs.Prelude.{◌≡◌, Bool, true, false, ◌||◌, ℕ, zero, suc, ◌≤◌, eqb, length}
+use Rattle.std.specs.Prelude.{◌≡◌, Bool, true, false, ◌||◌, ℕ, zero, suc, ◌≤◌, eqb, length, if◌then◌else◌}
 use Rattle.std.proofs.Math.Path.{refl, sym, ap}
 use Rattle.std.proofs.Common.{◌∙◌, arith, eqb-true, ne_eqb}
 use Rattle.std.proofs.Math.Option.{some}
 use mathlib.Core.List.{List, [], ◌∷◌, ◌++◌, append_assoc, append-nil}
 use Rattle.base.specs.Bools.{and_left, and_right}
-use Rattle.meaning.specs.Ascii.{if◌then◌else◌, space, tab, line_feed, quote, backslash, triple_quote}
+use Rattle.meaning.specs.Ascii.{space, tab, line_feed, quote, backslash, triple_quote}
 use Rattle.meaning.specs.Settings.{is_blank, blank}
 use Rattle.meaning.specs.Block.{last_byte, three_quotes, line_after, escaped_line, block_line, block_lines}
 use Rattle.meaning.specs.Reading.{prepend}

@@ -1,6 +1,6 @@
 -- The block value of the raw text of a value that keeps the block rule is the value: the common indent is the indentation, no more,
 -- since the value's own is 0; and of the lines only those that the form adds at the front and at the end are blank.
-use Rattle.std.specs.Prelude.{◌≡◌, Bool, ℕ, min, ◌+◌, length}
+use Rattle.std.specs.Prelude.{◌≡◌, Bool, ℕ, min, ◌+◌, length, if◌then◌else◌}
 use Rattle.std.proofs.Math.Path.{refl}
 use Rattle.std.proofs.Common.{ap, ◌∙◌, arith, eqb-true}
 use Rattle.std.proofs.Math.Bool.{true, false}
@@ -8,7 +8,7 @@ use Rattle.std.proofs.Math.Option.{Option, none, some}
 use mathlib.Core.List.{List, [], ◌∷◌, ◌++◌, map, append_assoc}
 use Rattle.std.proofs.Math.Seq.{drop-nil, drop-append_seam, drop-length}
 use Rattle.base.specs.Bools.{clash, and_left, and_right}
-use Rattle.meaning.specs.Ascii.{if◌then◌else◌, line_feed, carriage_return}
+use Rattle.meaning.specs.Ascii.{line_feed, carriage_return}
 use Rattle.meaning.specs.Settings.{is_blank, blank}
 use Rattle.meaning.specs.Block.{lines, first_line, last_line, indent, lesser, common_indent, has, is_zero, can_be_block_string, raw_lines, removed, dedented, drop_blank_front, unless_blank, drop_blank_end, joined, block_string_value}
 use Rattle.literal_laws.specs.Lines.{lines_joined, one_line, raw_lines_without_cr}

@@ -1,7 +1,6 @@
 -- Every literal keeps within the bound of its form: the bounds of the two forms, and an indentation is level times prefix length.
-use Rattle.std.specs.Prelude.{◌≡◌, Bool, true, false, List, ℕ, zero, suc, ◌*◌, ◌≤◌, length}
+use Rattle.std.specs.Prelude.{◌≡◌, Bool, true, false, List, ℕ, zero, suc, ◌*◌, ◌≤◌, length, if◌then◌else◌}
 use Rattle.std.proofs.Common.{suc-mul, arith, length-append}
-use Rattle.meaning.specs.Ascii.{if◌then◌else◌}
 use Rattle.meaning.specs.Settings.{Settings, times, indentation}
 use Rattle.meaning.specs.Quoted.{quoted}
 use Rattle.meaning.specs.Block.{block_string}

@@ -1,9 +1,9 @@
 -- Lines hold neither LF nor CR. So the lines of joined lines are these lines, and CR stands nowhere in what is joined.
-use Rattle.std.specs.Prelude.{◌≡◌, refl, Bool, true, false, not, ◌&&◌, List, [], ◌∷◌, ◌++◌, map, ℕ, zero, suc, eqb, drop}
+use Rattle.std.specs.Prelude.{◌≡◌, refl, Bool, true, false, not, ◌&&◌, List, [], ◌∷◌, ◌++◌, map, ℕ, zero, suc, eqb, drop, if◌then◌else◌}
 use Rattle.std.proofs.Common.{◌∙◌}
 use Rattle.std.proofs.Math.Option.{Option, none, some}
 use Rattle.base.specs.Bools.{and_left, and_right, and_both, not_true, or_both_false}
-use Rattle.meaning.specs.Ascii.{if◌then◌else◌, line_feed, carriage_return}
+use Rattle.meaning.specs.Ascii.{line_feed, carriage_return}
 use Rattle.meaning.specs.Settings.{blank}
 use Rattle.meaning.specs.Block.{onto, lines, has, raw_lines_after, raw_lines, removed, drop_blank_front, unless_blank, drop_blank_end, joined}
 

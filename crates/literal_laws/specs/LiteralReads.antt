@@ -1,9 +1,9 @@
 -- Every literal reads back as its value, in the form that it was written in: the two forms do, and a prefix of spaces and tabs makes
 -- such an indentation.
-use Rattle.std.specs.Prelude.{◌≡◌, Bool, true, false, ◌&&◌, ◌||◌, List, [], ◌∷◌, ◌++◌, ℕ, zero, suc}
+use Rattle.std.specs.Prelude.{◌≡◌, Bool, true, false, ◌&&◌, ◌||◌, List, [], ◌∷◌, ◌++◌, ℕ, zero, suc, if◌then◌else◌}
 use Rattle.std.proofs.Math.Path.{refl}
 use Rattle.base.specs.Bools.{and_left, and_right, and_both}
-use Rattle.meaning.specs.Ascii.{if◌then◌else◌, line_feed}
+use Rattle.meaning.specs.Ascii.{line_feed}
 use Rattle.meaning.specs.Utf8.{utf8}
 use Rattle.meaning.specs.Settings.{Settings, is_blank, blank, times, indentation}
 use Rattle.meaning.specs.Quoted.{quoted}

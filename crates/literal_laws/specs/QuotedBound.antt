@@ -1,7 +1,7 @@
 -- The quoted form has at most 6n + 2 bytes: a byte is written with at most six, and a quote stands at each end.
-use Rattle.std.specs.Prelude.{Bool, true, false, List, [], ◌∷◌, ℕ, ◌*◌, ◌/◌, ◌%◌, ◌≤◌, eqb, length}
+use Rattle.std.specs.Prelude.{Bool, true, false, List, [], ◌∷◌, ℕ, ◌*◌, ◌/◌, ◌%◌, ◌≤◌, eqb, length, if◌then◌else◌}
 use Rattle.std.proofs.Common.{arith, length-append}
-use Rattle.meaning.specs.Ascii.{if◌then◌else◌, quote, backslash}
+use Rattle.meaning.specs.Ascii.{quote, backslash}
 use Rattle.meaning.specs.Quoted.{letter_u, class, hex_digit, written_as, escaped, body, quoted}
 use Rattle.meaning.specs.Demand.{quoted_bound}
 

@@ -1,10 +1,10 @@
 -- Quoted text is read by the specification's StringCharacter: each of its three kinds is what the front of quoted text looks for, and
 -- a quote closes.
-use Rattle.std.specs.Prelude.{◌≡◌, refl, ◌↔◌, Bool, true, false, ◌&&◌, ◌||◌, List, [], ◌∷◌, ◌++◌, ℕ, ◌+◌, ◌*◌, eqb}
+use Rattle.std.specs.Prelude.{◌≡◌, refl, ◌↔◌, Bool, true, false, ◌&&◌, ◌||◌, List, [], ◌∷◌, ◌++◌, ℕ, ◌+◌, ◌*◌, eqb, if◌then◌else◌}
 use Rattle.std.proofs.Common.{sym, ◌∙◌, subst, eqb-true}
 use Rattle.std.proofs.Math.Option.{some}
 use Rattle.base.specs.Bools.{clash, and_left, and_right}
-use Rattle.meaning.specs.Ascii.{if◌then◌else◌, tab, line_feed, carriage_return, quote, backslash}
+use Rattle.meaning.specs.Ascii.{tab, line_feed, carriage_return, quote, backslash}
 use Rattle.meaning.specs.Utf8.{scalar, encoded}
 use Rattle.meaning.specs.Quoted.{letter_b, letter_f, letter_n, letter_r, letter_t, letter_u}
 use Rattle.meaning.specs.Reading.{Front, character, closing, wrong, hex_value, is_hex, unicode_escape, letter_byte, escape, quoted_front, prepend, characters}

@@ -1,6 +1,6 @@
 -- The quoted form of any bytes reads back: what is written for a byte is one character that stands for that byte. A byte up to the
 -- backslash is looked at one by one, and every byte past it stands for itself.
-use Rattle.std.specs.Prelude.{◌≡◌, Bool, true, false, not, ◌&&◌, List, [], ◌∷◌, ◌++◌, ℕ, ◌+◌, ◌*◌, ◌/◌, ◌%◌, ◌≤◌, ◌<◌, eqb, ltb}
+use Rattle.std.specs.Prelude.{◌≡◌, Bool, true, false, not, ◌&&◌, List, [], ◌∷◌, ◌++◌, ℕ, ◌+◌, ◌*◌, ◌/◌, ◌%◌, ◌≤◌, ◌<◌, eqb, ltb, if◌then◌else◌}
 use Rattle.std.proofs.Math.Path.{refl}
 use Rattle.std.proofs.Math.Option.{some}
 use Rattle.std.proofs.Common.{append_assoc, arith, ne_eqb, eqb-true, lt-ltb, le-ltb, le-leb, ltb-true}
@@ -8,7 +8,7 @@ use Rattle.std.proofs.Math.Decide.{dec_le}
 use Rattle.std.proofs.lemmas.Bool.{eqb-false}
 use Rattle.base.specs.Bools.{and_left, and_right, not_true}
 use Rattle.base.specs.Finite.{all, below}
-use Rattle.meaning.specs.Ascii.{if◌then◌else◌, line_feed, carriage_return, tab, quote, backslash}
+use Rattle.meaning.specs.Ascii.{line_feed, carriage_return, tab, quote, backslash}
 use Rattle.meaning.specs.Quoted.{letter_u, class, hex_digit, written_as, escaped, body, quoted}
 use Rattle.meaning.specs.Block.{three_quotes}
 use Rattle.meaning.specs.Reading.{character, hex_value, letter_byte, quoted_front, prepend, characters, string_value, value, quoted_form}

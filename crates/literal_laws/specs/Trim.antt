@@ -1,10 +1,9 @@
 -- What the steps of BlockStringValue leave: the first and the last line are not blank, and the least indent is 0, since the common
 -- indent is taken from every line and blank lines have no part in it.
-use Rattle.std.specs.Prelude.{◌≡◌, refl, Bool, true, false, ◌&&◌, List, [], ◌∷◌, map, ℕ, zero, suc, ◌-◌, ◌≤◌, drop}
+use Rattle.std.specs.Prelude.{◌≡◌, refl, Bool, true, false, ◌&&◌, List, [], ◌∷◌, map, ℕ, zero, suc, ◌-◌, ◌≤◌, drop, if◌then◌else◌}
 use Rattle.std.proofs.Common.{ap, ◌∙◌, arith, eq-eqb}
 use Rattle.std.proofs.Math.Option.{Option, none, some}
 use Rattle.base.specs.Bools.{and_right}
-use Rattle.meaning.specs.Ascii.{if◌then◌else◌}
 use Rattle.meaning.specs.Settings.{is_blank, blank}
 use Rattle.meaning.specs.Block.{first_line, last_line, indent, lesser, common_indent, is_zero, removed, drop_blank_front, unless_blank, drop_blank_end}
 use Rattle.literal_laws.specs.Lines.{Some}

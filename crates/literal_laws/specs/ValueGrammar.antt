@@ -1,12 +1,12 @@
 -- A text is read exactly if it is one StringValue of the specification's grammar, and the answer is its value and its form. A quote
 -- in quoted text closes it, so no quoted literal begins with three.
-use Rattle.std.specs.Prelude.{◌≡◌, ◌↔◌, Bool, true, List, [], ◌∷◌, ◌++◌, ℕ, eqb, drop}
+use Rattle.std.specs.Prelude.{◌≡◌, ◌↔◌, Bool, true, List, [], ◌∷◌, ◌++◌, ℕ, eqb, drop, if◌then◌else◌}
 use Rattle.std.proofs.Math.Path.{refl}
 use Rattle.std.proofs.Common.{sym, ap, ◌∙◌, subst, eqb-true}
 use Rattle.std.proofs.Math.Bool.{false}
 use Rattle.std.proofs.Math.Option.{Option, none, some}
 use Rattle.base.specs.Bools.{clash}
-use Rattle.meaning.specs.Ascii.{if◌then◌else◌, quote, triple_quote}
+use Rattle.meaning.specs.Ascii.{quote, triple_quote}
 use Rattle.meaning.specs.Block.{three_quotes, block_string_value}
 use Rattle.meaning.specs.Reading.{closing, quoted_front, block_front, characters, Form, quoted_form, block_form, Reading, refused, value, as_quoted, as_block, string_value}
 use Rattle.literal_laws.specs.Quotes.{no_quote_behind_no_three, three_quotes_are}

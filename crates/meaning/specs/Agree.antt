@@ -1,7 +1,6 @@
 -- The rules hold the children that document 01 lists: for every kind, the slots of its rule are the slots of its row, by one
 -- computed test. (The Document's children are its definitions: see Layout.)
-use Rattle.std.specs.Prelude.{◌≡◌, refl, ℕ, zero, suc, ◌+◌, ◌-◌, ◌*◌, Bool, true, ◌&&◌, ◌||◌, List, [], ◌∷◌, eqb}
-use Rattle.meaning.specs.Ascii.{if◌then◌else◌}
+use Rattle.std.specs.Prelude.{◌≡◌, refl, ℕ, zero, suc, ◌+◌, ◌-◌, ◌*◌, Bool, true, ◌&&◌, ◌||◌, List, [], ◌∷◌, eqb, if◌then◌else◌}
 use Rattle.meaning.specs.Kind
 use Rattle.meaning.specs.Children.{Class, a, definition, selection, type, value, named_type, Slot, one, opt, any, some, row_of}
 use Rattle.meaning.specs.Rules.{Part, tok, words, text, literal, space, new_line_or_space, one as one_child, spaced, separated, comma_separated, curly_brackets, if_next, if_text, if_variant, rule_of}

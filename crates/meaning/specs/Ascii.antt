@@ -1,12 +1,7 @@
--- Text in definitions: the bytes of a quoted text, the characters that the documents speak of by name, and a choice.
-use Rattle.std.specs.Prelude.{Bool, true, false, List, [], ◌∷◌, ℕ}
+-- Text in definitions: the bytes of a quoted text, and the characters that the documents speak of by name.
+use Rattle.std.specs.Prelude.{List, [], ◌∷◌, ℕ}
 use Prim.Native.String.{String, [] as nil, ◌∷◌ as next}
 use Prim.Native.Char.{code}
-
-infix 5 if◌then◌else◌
-abbrev pub if◌then◌else◌ {ℓ} : {X : Type ℓ} → Bool → X → X → X
-if◌then◌else◌ true x y = x
-if◌then◌else◌ false x y = y
 
 -- the bytes of a text of ASCII characters
 abbrev pub ascii : String → List ℕ

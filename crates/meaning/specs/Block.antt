@@ -1,7 +1,7 @@
 -- Document 01, "String literals": the block rule and the block form; and the specification's BlockStringValue.
-use Rattle.std.specs.Prelude.{Bool, true, false, not, ◌&&◌, ◌||◌, List, [], ◌∷◌, ◌++◌, map, ℕ, zero, suc, min, eqb, ltb, length, drop}
+use Rattle.std.specs.Prelude.{Bool, true, false, not, ◌&&◌, ◌||◌, List, [], ◌∷◌, ◌++◌, map, ℕ, zero, suc, min, eqb, ltb, length, drop, if◌then◌else◌}
 use Rattle.std.proofs.Math.Option.{Option, none, some}
-use Rattle.meaning.specs.Ascii.{if◌then◌else◌, line_feed, carriage_return, quote, backslash, triple_quote}
+use Rattle.meaning.specs.Ascii.{line_feed, carriage_return, quote, backslash, triple_quote}
 use Rattle.meaning.specs.Settings.{is_blank, blank}
 
 -- ---- lines

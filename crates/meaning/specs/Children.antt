@@ -1,8 +1,7 @@
 -- Document 01, "The node table": the table of kinds, a row a kind: its text, its variants, its children in order.
-use Rattle.std.specs.Prelude.{ℕ, Bool, ◌&&◌, ◌||◌, eqb, leb, get_or}
+use Rattle.std.specs.Prelude.{ℕ, Bool, ◌&&◌, ◌||◌, eqb, leb, get_or, if◌then◌else◌}
 use Rattle.std.proofs.Math.Bool.{true, false}
 use mathlib.Core.List.{List, [], ◌∷◌, map}
-use Rattle.meaning.specs.Ascii.{if◌then◌else◌}
 use Rattle.meaning.specs.Kind
 
 -- ---- what a place among the children asks for

@@ -1,7 +1,7 @@
 -- What is promised of every literal: demand 3 and the bounds of document 01. These are statements; the crate `demand` proves them.
-use Rattle.std.specs.Prelude.{◌≡◌, ◌↔◌, Bool, true, false, ◌&&◌, ◌||◌, List, [], ◌∷◌, ◌++◌, ℕ, suc, ◌+◌, ◌*◌, ◌/◌, ◌≤◌, eqb, length, take, drop}
+use Rattle.std.specs.Prelude.{◌≡◌, ◌↔◌, Bool, true, false, ◌&&◌, ◌||◌, List, [], ◌∷◌, ◌++◌, ℕ, suc, ◌+◌, ◌*◌, ◌/◌, ◌≤◌, eqb, length, take, drop, if◌then◌else◌}
 use Rattle.std.proofs.Math.Option.{some}
-use Rattle.meaning.specs.Ascii.{if◌then◌else◌, line_feed}
+use Rattle.meaning.specs.Ascii.{line_feed}
 use Rattle.meaning.specs.Utf8.{scalar, encoded, utf8}
 use Rattle.meaning.specs.Settings.{Settings, blank, literal_levels, settings_fault}
 use Rattle.meaning.specs.Block.{has, raw_lines, first_line, block_string_value}

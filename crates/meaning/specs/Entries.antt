@@ -1,7 +1,6 @@
 -- What every public entry answers, and what it leaves in the lent output: one function of its inputs and the output before.
-use Rattle.std.specs.Prelude.{ℕ, Bool, not, ◌||◌, List, ◌++◌, eqb, leb, length, drop}
+use Rattle.std.specs.Prelude.{ℕ, Bool, not, ◌||◌, List, ◌++◌, eqb, leb, length, drop, if◌then◌else◌}
 use Rattle.std.proofs.Math.Option.{Option, none, some}
-use Rattle.meaning.specs.Ascii.{if◌then◌else◌}
 use Rattle.meaning.specs.Utf8.{utf8}
 use Rattle.meaning.specs.Settings.{Settings, settings, document_levels, literal_levels, settings_fault, switch_fault}
 use Rattle.meaning.specs.Literal.{literal}

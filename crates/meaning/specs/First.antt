@@ -1,6 +1,5 @@
 -- The smallest number at which a test holds.
-use Rattle.std.specs.Prelude.{ℕ, zero, suc, ◌≤◌, ◌<◌, Bool, true, false, ◌≡◌, ltb}
-use Rattle.meaning.specs.Ascii.{if◌then◌else◌}
+use Rattle.std.specs.Prelude.{ℕ, zero, suc, ◌≤◌, ◌<◌, Bool, true, false, ◌≡◌, ltb, if◌then◌else◌}
 
 -- the smallest number below n at which the test holds; n where there is none
 unfoldable pub first : (ℕ → Bool) → ℕ → ℕ

@@ -1,6 +1,6 @@
 -- Document 01, "Layout": what the parts of a rule write, and the text of a document.
-use Rattle.std.specs.Prelude.{ℕ, zero, suc, Bool, true, false, ◌&&◌, ◌||◌, List, [], ◌∷◌, ◌++◌, eqb, get_or}
-use Rattle.meaning.specs.Ascii.{if◌then◌else◌, ascii, line_feed, space as a_space}
+use Rattle.std.specs.Prelude.{ℕ, zero, suc, Bool, true, false, ◌&&◌, ◌||◌, List, [], ◌∷◌, ◌++◌, eqb, get_or, if◌then◌else◌}
+use Rattle.meaning.specs.Ascii.{ascii, line_feed, space as a_space}
 use Rattle.meaning.specs.Kind
 use Rattle.meaning.specs.Tree.{Head, Tree, tree, Forest, none, more, head}
 use Rattle.meaning.specs.Settings.{Settings, deeper, on_single_line, new_line, new_line_or_space as line_or_space}

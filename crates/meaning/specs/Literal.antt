@@ -1,6 +1,6 @@
 -- Document 01, "String literals": which form is taken, and the whole literal.
-use Rattle.std.specs.Prelude.{Bool, ◌&&◌, ◌||◌, List, ℕ}
-use Rattle.meaning.specs.Ascii.{if◌then◌else◌, line_feed}
+use Rattle.std.specs.Prelude.{Bool, ◌&&◌, ◌||◌, List, ℕ, if◌then◌else◌}
+use Rattle.meaning.specs.Ascii.{line_feed}
 use Rattle.meaning.specs.Settings.{Settings, indentation}
 use Rattle.meaning.specs.Quoted.{quoted}
 use Rattle.meaning.specs.Block.{has, can_be_block_string, block_string}

@@ -1,6 +1,6 @@
 -- Document 01, "String literals": the quoted form.
-use Rattle.std.specs.Prelude.{List, [], ◌∷◌, ◌++◌, ℕ, ◌+◌, ◌/◌, ◌%◌, eqb, ltb}
-use Rattle.meaning.specs.Ascii.{if◌then◌else◌, tab, line_feed, carriage_return, quote, backslash}
+use Rattle.std.specs.Prelude.{List, [], ◌∷◌, ◌++◌, ℕ, ◌+◌, ◌/◌, ◌%◌, eqb, ltb, if◌then◌else◌}
+use Rattle.meaning.specs.Ascii.{tab, line_feed, carriage_return, quote, backslash}
 
 -- the letters of escapes
 abbrev pub letter_b : ℕ

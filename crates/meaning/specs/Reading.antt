@@ -1,7 +1,7 @@
 -- Document 01, "String literals", "Reading": one StringValue of the specification, with its form.
-use Rattle.std.specs.Prelude.{Bool, ◌&&◌, ◌||◌, List, [], ◌∷◌, ◌++◌, ℕ, zero, suc, ◌+◌, ◌-◌, ◌*◌, eqb, ltb, leb, drop}
+use Rattle.std.specs.Prelude.{Bool, ◌&&◌, ◌||◌, List, [], ◌∷◌, ◌++◌, ℕ, zero, suc, ◌+◌, ◌-◌, ◌*◌, eqb, ltb, leb, drop, if◌then◌else◌}
 use Rattle.std.proofs.Math.Option.{Option, none, some}
-use Rattle.meaning.specs.Ascii.{if◌then◌else◌, tab, line_feed, carriage_return, quote, backslash, triple_quote}
+use Rattle.meaning.specs.Ascii.{tab, line_feed, carriage_return, quote, backslash, triple_quote}
 use Rattle.meaning.specs.Utf8.{scalar, encoded, utf8}
 use Rattle.meaning.specs.Quoted.{letter_b, letter_f, letter_n, letter_r, letter_t, letter_u}
 use Rattle.meaning.specs.Block.{three_quotes, block_string_value}

@@ -1,6 +1,5 @@
 -- Document 01, "Refusal numbers", rows 2 to 7: the faults of a table and its nodes, and the number and place that are given.
-use Rattle.std.specs.Prelude.{ℕ, zero, suc, ◌+◌, ◌%◌, ◌<◌, ◌≡◌, ◌⊎◌, ◌↔◌, Bool, true, false, not, ◌&&◌, ◌||◌, List, [], ◌∷◌, eqb, ltb, leb, length}
-use Rattle.meaning.specs.Ascii.{if◌then◌else◌}
+use Rattle.std.specs.Prelude.{ℕ, zero, suc, ◌+◌, ◌%◌, ◌<◌, ◌≡◌, ◌⊎◌, ◌↔◌, Bool, true, false, not, ◌&&◌, ◌||◌, List, [], ◌∷◌, eqb, ltb, leb, length, if◌then◌else◌}
 use Rattle.meaning.specs.First.{first, some, count}
 use Rattle.meaning.specs.Kind
 use Rattle.meaning.specs.Table.{words_per_node, nodes, kind_at, variant_at, start_at, length_at, end_at, text_at, children_at}

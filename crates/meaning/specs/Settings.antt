@@ -1,6 +1,6 @@
 -- Document 01, "Refusal numbers", row 1, and "Layout": the settings, their faults, the default, and new lines.
-use Rattle.std.specs.Prelude.{Bool, true, false, not, ◌&&◌, ◌||◌, List, [], ◌∷◌, ◌++◌, ℕ, zero, suc, ◌+◌, eqb, ltb, length}
-use Rattle.meaning.specs.Ascii.{if◌then◌else◌, space, tab, line_feed}
+use Rattle.std.specs.Prelude.{Bool, true, false, not, ◌&&◌, ◌||◌, List, [], ◌∷◌, ◌++◌, ℕ, zero, suc, ◌+◌, eqb, ltb, length, if◌then◌else◌}
+use Rattle.meaning.specs.Ascii.{space, tab, line_feed}
 
 pub record Settings : Type 0 where
   pub breaks : Bool

@@ -1,7 +1,7 @@
 -- Document 01, "Refusal numbers", row 7: names, numbers and other text.
-use Rattle.std.specs.Prelude.{Bool, true, false, not, ◌&&◌, ◌||◌, List, [], ◌∷◌, ℕ, eqb}
+use Rattle.std.specs.Prelude.{Bool, true, false, not, ◌&&◌, ◌||◌, List, [], ◌∷◌, ℕ, eqb, if◌then◌else◌}
 use Rattle.std.proofs.Math.Option.{Option, none, some}
-use Rattle.meaning.specs.Ascii.{if◌then◌else◌, ascii}
+use Rattle.meaning.specs.Ascii.{ascii}
 use Rattle.meaning.specs.Utf8.{utf8}
 use Rattle.meaning.specs.Children.{TextRule, no_text, name, name_or_empty, fragment_name, enum_name, float, int, any_text, from◌to◌}
 

@@ -1,7 +1,6 @@
 -- Document 01, "String literals": UTF-8 (RFC 3629). A lead byte's leading one bits give the length; overlong forms, surrogates and
 -- values past 10FFFF are bad.
-use Rattle.std.specs.Prelude.{Bool, true, false, not, ◌&&◌, ◌||◌, List, [], ◌∷◌, ℕ, zero, suc, ◌+◌, ◌-◌, ◌*◌, ◌/◌, ◌%◌, ◌^◌, eqb, ltb, leb}
-use Rattle.meaning.specs.Ascii.{if◌then◌else◌}
+use Rattle.std.specs.Prelude.{Bool, true, false, not, ◌&&◌, ◌||◌, List, [], ◌∷◌, ℕ, zero, suc, ◌+◌, ◌-◌, ◌*◌, ◌/◌, ◌%◌, ◌^◌, eqb, ltb, leb, if◌then◌else◌}
 
 -- a value up to 10FFFF that is no surrogate
 unfoldable pub scalar : ℕ → Bool

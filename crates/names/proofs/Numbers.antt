@@ -1,7 +1,7 @@
 -- The parts of a number by the byte that stands first, and FloatValue by what stands behind its integer part: an exponent part never
 -- begins with a point, so at most one of the three productions is left.
 use Rattle.std.proofs.Math.Path.{◌≡◌, ◌∙◌}
-use Rattle.std.specs.Prelude.{refl, Bool, true, false, eqb, leb, length, drop}
+use Rattle.std.specs.Prelude.{refl, Bool, true, false, eqb, leb, length, drop, if◌then◌else◌}
 use Rattle.std.proofs.Common.{ap, arith, le-leb, eqb-true}
 use Rattle.std.proofs.Math.Bool.{◌||◌}
 use Rattle.std.proofs.Math.Option.{none, some}
@@ -11,7 +11,6 @@ use Rattle.std.proofs.Math.Decide.{dec_le}
 use Rattle.std.proofs.Math.ListN.{get_or, drop_of_length-le}
 use Rattle.std.proofs.lemmas.Bool.{lt-leb}
 use Rattle.base.specs.Bools.{clash}
-use Rattle.meaning.specs.Ascii.{if◌then◌else◌}
 use Rattle.meaning.specs.Text.{digits, unsigned, integer_part, fractional_part, signed_digits, exponent_part, ends, is_float}
 use Rattle.names.specs.Behind.{begins}
 use Rattle.names.proofs.Names.{begins_with_byte}

@@ -1,6 +1,6 @@
 -- A node has no fault where the tests that are the same for all kinds find none.
 use Rattle.std.proofs.Math.Path.{◌≡◌}
-use Rattle.std.specs.Prelude.{refl, Bool, true, false, not, List, eqb, ltb, length, set}
+use Rattle.std.specs.Prelude.{refl, Bool, true, false, not, List, eqb, ltb, length, set, if◌then◌else◌}
 use Rattle.std.proofs.Common.{arith}
 use Rattle.std.proofs.Math.Bool.{◌&&◌, ◌||◌}
 use Prim.Native.Nat.{ℕ, ◌+◌, ◌*◌, ◌≤◌, ◌<◌}
@@ -9,7 +9,6 @@ use Rattle.std.proofs.Math.ListN.{get_or}
 use Rattle.std.proofs.Math.Seq.{get_or-set_same, get_or-set_other}
 use borrow.Author.Tests.{lt-leb, le-ltb, eq-eqb, ne_eqb, ltb-true}
 use Rattle.base.specs.Finite.{below}
-use Rattle.meaning.specs.Ascii.{if◌then◌else◌}
 use Rattle.meaning.specs.Kind
 use Rattle.meaning.specs.Table.{nodes, kind_at, variant_at, start_at, length_at, end_at}
 use Rattle.meaning.specs.Children.{row_of}

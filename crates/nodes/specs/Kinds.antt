@@ -1,6 +1,5 @@
 -- What the tables of kinds say that are lent to the check of nodes.
-use Rattle.std.specs.Prelude.{◌≡◌, List, ℕ, ◌<◌, get_or}
-use Rattle.meaning.specs.Ascii.{if◌then◌else◌}
+use Rattle.std.specs.Prelude.{◌≡◌, List, ℕ, ◌<◌, get_or, if◌then◌else◌}
 use Rattle.meaning.specs.Kind
 use Rattle.meaning.specs.Children.{row_of}
 use Rattle.meaning.specs.Refusals.{takes_no_text}

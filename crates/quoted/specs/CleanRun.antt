@@ -1,9 +1,8 @@
 -- How many bytes at the front of a text stand for themselves. That run is written as it is, and behind it is a byte to be escaped,
 -- or the end.
-use Rattle.std.specs.Prelude.{◌≡◌, refl, Bool, true, false, List, [], ◌∷◌, ◌++◌, ℕ, suc, ◌+◌, ◌-◌, ◌≤◌, ◌<◌, eqb, length, take, drop, get_or}
+use Rattle.std.specs.Prelude.{◌≡◌, refl, Bool, true, false, List, [], ◌∷◌, ◌++◌, ℕ, suc, ◌+◌, ◌-◌, ◌≤◌, ◌<◌, eqb, length, take, drop, get_or, if◌then◌else◌}
 use Rattle.std.proofs.Common.{ap, arith, drop_of_length-le, length-drop, drop-drop, get_or-drop, eqb-true, ne_eqb}
 use Rattle.std.proofs.lemmas.Bool.{eqb-false}
-use Rattle.meaning.specs.Ascii.{if◌then◌else◌}
 use Rattle.meaning.specs.Quoted.{class, escaped, body}
 use Rattle.pen.specs.Lists.{drop_one}
 use Rattle.quoted.specs.Escapes.{stands_for_itself}

@@ -1,10 +1,9 @@
 -- A turn of the walks that count: blanks, the bytes of a line, and the bytes of a run, each a number of bytes from a place on.
-use Rattle.std.specs.Prelude.{◌≡◌, Bool, List, [], ◌∷◌, ℕ, suc, ◌+◌, ◌≤◌, ◌<◌, length, get_or}
+use Rattle.std.specs.Prelude.{◌≡◌, Bool, List, [], ◌∷◌, ℕ, suc, ◌+◌, ◌≤◌, ◌<◌, length, get_or, if◌then◌else◌}
 use Rattle.std.proofs.Math.Bool.{true, false}
 use Rattle.std.proofs.Math.Numerals.{add-one}
 use Rattle.std.proofs.Common.{arith, length-drop, drop_of_length-le, drop-cons}
 use Rattle.std.proofs.Math.ListN.{drop}
-use Rattle.meaning.specs.Ascii.{if◌then◌else◌}
 use Rattle.meaning.specs.Settings.{is_blank}
 use Rattle.meaning.specs.Block.{indent}
 use Rattle.read_block_laws.specs.FirstLine.{is_line_end, line_length}

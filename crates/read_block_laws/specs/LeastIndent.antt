@@ -1,13 +1,13 @@
 -- The common indent, a line at a time: the first line counts unless it is blank, and then the lines behind its line end. CR LF may
 -- be taken for two line ends here, since the empty line between them does not count.
-use Rattle.std.specs.Prelude.{◌≡◌, refl, Bool, true, List, [], ◌∷◌, ℕ, suc, ◌+◌, ◌-◌, ◌≤◌, ◌<◌, eqb, ltb, length, take, drop, get_or}
+use Rattle.std.specs.Prelude.{◌≡◌, refl, Bool, true, List, [], ◌∷◌, ℕ, suc, ◌+◌, ◌-◌, ◌≤◌, ◌<◌, eqb, ltb, length, take, drop, get_or, if◌then◌else◌}
 use Rattle.std.proofs.Common.{ap, ◌∙◌, add-one, length-drop, drop_of_length-le, drop-drop}
 use Rattle.std.proofs.Math.Bool.{false}
 use Rattle.std.proofs.Math.Option.{Option, none, some}
 use native.Mathlib.Omega.{arith}
 use Rattle.std.proofs.Math.Decide.{dec_le}
 use borrow.Author.Tests.{lt-ltb, le-ltb}
-use Rattle.meaning.specs.Ascii.{if◌then◌else◌, carriage_return}
+use Rattle.meaning.specs.Ascii.{carriage_return}
 use Rattle.meaning.specs.Settings.{blank}
 use Rattle.meaning.specs.Block.{indent, lesser, common_indent, raw_lines_after}
 use Rattle.read_block_laws.specs.FirstLine.{is_line_end, line_length, lines_of, other_lines, first_line_and_others, others_after, no_others, cr_before, first_line_within, blanks_before_line_end, first_line_indent, blank_up_to, not_blank_past}

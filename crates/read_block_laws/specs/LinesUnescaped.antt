@@ -1,10 +1,10 @@
 -- Unescaping goes line by line and leaves a line's blanks: `\"""` holds neither a line end nor a blank, and neither has `"""`.
-use Rattle.std.specs.Prelude.{◌≡◌, Bool, true, false, ◌&&◌, List, [], ◌∷◌, ◌++◌, map, ℕ, zero, suc, ◌≤◌, eqb, take, drop}
+use Rattle.std.specs.Prelude.{◌≡◌, Bool, true, false, ◌&&◌, List, [], ◌∷◌, ◌++◌, map, ℕ, zero, suc, ◌≤◌, eqb, take, drop, if◌then◌else◌}
 use Rattle.std.proofs.Math.Path.{refl}
 use Rattle.std.proofs.Common.{sym, ap, ◌∙◌, arith, ne_eqb}
 use Rattle.std.proofs.Math.Seq.{drop-nil}
 use Rattle.base.specs.Bools.{clash}
-use Rattle.meaning.specs.Ascii.{if◌then◌else◌, line_feed, carriage_return, quote, backslash, triple_quote}
+use Rattle.meaning.specs.Ascii.{line_feed, carriage_return, quote, backslash, triple_quote}
 use Rattle.meaning.specs.Settings.{is_blank, blank}
 use Rattle.meaning.specs.Block.{onto, indent, common_indent, three_quotes, raw_lines_after}
 use Rattle.literal_laws.specs.BlockText.{blank_is_no_other}

@@ -1,6 +1,6 @@
 -- The common indent taken from each line: of a line that is not blank all of it is there, and a blank line has that much or loses
 -- all. So it is the same to take at most so many blanks from each line, which never makes a line blank, whatever the line.
-use Rattle.std.specs.Prelude.{◌≡◌, Bool, ◌&&◌, drop}
+use Rattle.std.specs.Prelude.{◌≡◌, Bool, ◌&&◌, drop, if◌then◌else◌}
 use Rattle.std.proofs.Math.Path.{refl}
 use Rattle.std.proofs.Common.{◌∙◌}
 use Rattle.std.proofs.Math.Bool.{true, false}
@@ -9,7 +9,6 @@ use mathlib.Core.List.{List, [], ◌∷◌, map}
 use Prim.Native.Nat.{ℕ, zero, suc, min, ◌≤◌}
 use native.Mathlib.Omega.{arith}
 use Rattle.base.specs.Bools.{and_left, and_right}
-use Rattle.meaning.specs.Ascii.{if◌then◌else◌}
 use Rattle.meaning.specs.Settings.{is_blank, blank}
 use Rattle.meaning.specs.Block.{indent, lesser, common_indent, removed, drop_blank_front, unless_blank, drop_blank_end}
 use Rattle.read_block_laws.specs.Unescaped.{unescaped}

@@ -1,10 +1,10 @@
 -- What is written of a source is no longer than the source: an escape and an indent only shorten a line, and LF is no longer than
 -- the line end that it stands for.
-use Rattle.std.specs.Prelude.{◌≡◌, refl, Bool, true, false, List, [], ◌∷◌, ◌++◌, map, ℕ, zero, suc, min, ◌+◌, ◌≤◌, eqb, length, take, drop}
+use Rattle.std.specs.Prelude.{◌≡◌, refl, Bool, true, false, List, [], ◌∷◌, ◌++◌, map, ℕ, zero, suc, min, ◌+◌, ◌≤◌, eqb, length, take, drop, if◌then◌else◌}
 use native.Mathlib.Omega.{arith}
 use Rattle.std.proofs.Math.ListN.{length-drop}
 use Rattle.std.proofs.Common.{length-append}
-use Rattle.meaning.specs.Ascii.{if◌then◌else◌, line_feed, carriage_return, triple_quote}
+use Rattle.meaning.specs.Ascii.{line_feed, carriage_return, triple_quote}
 use Rattle.meaning.specs.Block.{onto, indent, raw_lines_after, joined}
 use Rattle.read_block_laws.specs.Unescaped.{escapes, unescaped_after, unescaped, escape_is_long}
 use Rattle.read_block_laws.specs.FirstLine.{line_length, lines_of, other_lines, first_line_and_others}

@@ -1,13 +1,13 @@
 -- What is written of a source, a piece at a time: bytes up to a line end or an escape stand for themselves, an escape is three
 -- quotes, and a line end is LF, behind which at most n blanks of the next line are left out.
-use Rattle.std.specs.Prelude.{◌≡◌, Bool, true, ◌&&◌, ◌||◌, ℕ, zero, suc, min, ◌+◌, ◌-◌, ◌≤◌, ◌<◌, eqb, length, take, drop, get_or}
+use Rattle.std.specs.Prelude.{◌≡◌, Bool, true, ◌&&◌, ◌||◌, ℕ, zero, suc, min, ◌+◌, ◌-◌, ◌≤◌, ◌<◌, eqb, length, take, drop, get_or, if◌then◌else◌}
 use Rattle.std.proofs.Math.Path.{refl, ap}
 use Rattle.std.proofs.Common.{sym, ◌∙◌, add-one, arith, length-drop, drop_of_length-le, drop-cons, drop-drop}
 use Rattle.std.proofs.Math.Bool.{false}
 use mathlib.Core.List.{List, [], ◌∷◌, ◌++◌, map}
 use borrow.Author.Tests.{eq-eqb, ne_eqb}
 use Rattle.base.specs.Bools.{clash, and_false, or_left_false, or_right_false}
-use Rattle.meaning.specs.Ascii.{if◌then◌else◌, line_feed, carriage_return, backslash, triple_quote}
+use Rattle.meaning.specs.Ascii.{line_feed, carriage_return, backslash, triple_quote}
 use Rattle.meaning.specs.Settings.{is_blank}
 use Rattle.meaning.specs.Block.{onto, indent, three_quotes, raw_lines_after, joined}
 use Rattle.literal_laws.specs.Lines.{Some}

@@ -1,12 +1,12 @@
 -- The lines without the blank ones at the end are the lines of the text up to where the line of its last byte ends that is neither
 -- a blank nor a line end.
-use Rattle.std.specs.Prelude.{◌≡◌, Bool, ◌&&◌, ◌||◌, ℕ, zero, suc, ◌+◌, ◌-◌, ◌≤◌, ◌<◌, eqb, length, take, drop, get_or}
+use Rattle.std.specs.Prelude.{◌≡◌, Bool, ◌&&◌, ◌||◌, ℕ, zero, suc, ◌+◌, ◌-◌, ◌≤◌, ◌<◌, eqb, length, take, drop, get_or, if◌then◌else◌}
 use Rattle.std.proofs.Math.Path.{refl, sym, ap}
 use Rattle.std.proofs.Common.{◌∙◌, arith, length-take, length-drop, drop_of_length-le, drop-cons}
 use Rattle.std.proofs.Math.Bool.{true, false}
 use mathlib.Core.List.{List, [], ◌∷◌}
 use Rattle.base.specs.Bools.{clash, and_right, and_false, or_left_false, or_right_false}
-use Rattle.meaning.specs.Ascii.{if◌then◌else◌, line_feed, carriage_return}
+use Rattle.meaning.specs.Ascii.{line_feed, carriage_return}
 use Rattle.meaning.specs.Settings.{is_blank, blank}
 use Rattle.meaning.specs.Block.{onto, raw_lines_after, unless_blank, drop_blank_end}
 use Rattle.literal_laws.specs.Lines.{Some}

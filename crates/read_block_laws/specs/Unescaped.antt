@@ -1,11 +1,11 @@
 -- The raw text of a closed block string is its source up to the last three bytes, unescaped: the closing quotes end the text, and
 -- cutting them off makes or breaks no `\"""` before them.
-use Rattle.std.specs.Prelude.{◌≡◌, refl, Bool, ◌&&◌, List, [], ◌∷◌, ◌++◌, ℕ, zero, suc, ◌+◌, ◌-◌, ◌≤◌, eqb, length, take, drop}
+use Rattle.std.specs.Prelude.{◌≡◌, refl, Bool, ◌&&◌, List, [], ◌∷◌, ◌++◌, ℕ, zero, suc, ◌+◌, ◌-◌, ◌≤◌, eqb, length, take, drop, if◌then◌else◌}
 use Rattle.std.proofs.Common.{sym, ap, ◌∙◌, arith, length-drop, eqb-true}
 use Rattle.std.proofs.Math.Bool.{true, false}
 use Rattle.std.proofs.Math.Option.{Option, none, some}
 use Rattle.base.specs.Bools.{clash, and_left, and_right}
-use Rattle.meaning.specs.Ascii.{if◌then◌else◌, backslash, triple_quote}
+use Rattle.meaning.specs.Ascii.{backslash, triple_quote}
 use Rattle.meaning.specs.Block.{three_quotes}
 use Rattle.meaning.specs.Reading.{character, closing, block_front, prepend, nothing_more, on_front, characters}
 use Rattle.literal_laws.specs.Grammar.{nothing_left}

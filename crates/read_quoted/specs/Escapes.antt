@@ -1,11 +1,10 @@
 -- What is said of an escape, and what each escape means by its bytes. Four digits are looked at by their values: a value past 15 is no
 -- digit's.
-use Rattle.std.specs.Prelude.{◌≡◌, refl, Bool, true, false, ◌&&◌, List, [], ◌∷◌, ℕ, ◌+◌, ◌-◌, ◌*◌, ◌≤◌, ◌<◌, eqb, ltb, length, drop, get_or}
+use Rattle.std.specs.Prelude.{◌≡◌, refl, Bool, true, false, ◌&&◌, List, [], ◌∷◌, ℕ, ◌+◌, ◌-◌, ◌*◌, ◌≤◌, ◌<◌, eqb, ltb, length, drop, get_or, if◌then◌else◌}
 use Rattle.std.proofs.Common.{sym, ap, ◌∙◌, arith, drop_of_length-le}
 use Rattle.std.proofs.Math.ListN.{length-drop}
 use borrow.Author.Tests.{eq-eqb, ne_eqb, lt-ltb, le-ltb, le-leb}
 use Rattle.base.specs.Bools.{and_false}
-use Rattle.meaning.specs.Ascii.{if◌then◌else◌}
 use Rattle.meaning.specs.Utf8.{scalar, encoded}
 use Rattle.meaning.specs.Quoted.{letter_u}
 use Rattle.meaning.specs.Reading.{Front, character, wrong, hex_value, unicode_escape, letter_byte, escape}

@@ -1,10 +1,10 @@
 -- What reading answers and leaves: refused where the text has no value, and otherwise by whether the value fits. A value is never longer
 -- than its text, so the measuring walk tells its length.
-use Rattle.std.specs.Prelude.{◌≡◌, refl, Bool, true, false, List, [], ◌∷◌, ◌++◌, ℕ, ◌+◌, ◌/◌, ◌%◌, ◌≤◌, ◌<◌, ltb, length, drop}
+use Rattle.std.specs.Prelude.{◌≡◌, refl, Bool, true, false, List, [], ◌∷◌, ◌++◌, ℕ, ◌+◌, ◌/◌, ◌%◌, ◌≤◌, ◌<◌, ltb, length, drop, if◌then◌else◌}
 use Rattle.std.proofs.Common.{sym, arith, length-append, length-drop, le-leb}
 use Rattle.std.proofs.Math.Option.{Option, none, some}
 use Rattle.std.proofs.lemmas.Bool.{lt-leb}
-use Rattle.meaning.specs.Ascii.{if◌then◌else◌, quote}
+use Rattle.meaning.specs.Ascii.{quote}
 use Rattle.meaning.specs.Utf8.{encoded}
 use Rattle.meaning.specs.Reading.{quoted_form, quoted_front, characters, as_quoted}
 use Rattle.meaning.specs.Answers.{answer}

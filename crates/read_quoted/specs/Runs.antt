@@ -1,6 +1,6 @@
 -- Runs of bytes that stand for themselves in quoted text: they are read at once, and what ends a run is a quote, a backslash or a line
 -- end.
-use Rattle.std.specs.Prelude.{◌≡◌, refl, Bool, true, not, ◌&&◌, List, [], ◌∷◌, length, take, drop, get_or}
+use Rattle.std.specs.Prelude.{◌≡◌, refl, Bool, true, not, ◌&&◌, List, [], ◌∷◌, length, take, drop, get_or, if◌then◌else◌}
 use Rattle.std.proofs.Math.Path.{sym}
 use Rattle.std.proofs.Common.{ap, ◌∙◌, not-suc-le-zero, length-drop, drop_of_length-le, drop-drop, get_or-drop}
 use Rattle.std.proofs.Math.Bool.{false}
@@ -9,7 +9,7 @@ use native.Mathlib.Omega.{arith}
 use Rattle.std.proofs.Math.Dec.{eqb}
 use borrow.Author.Tests.{eqb-true, ne_eqb}
 use Rattle.base.specs.Bools.{and_left, and_right, not_true}
-use Rattle.meaning.specs.Ascii.{if◌then◌else◌, line_feed, carriage_return, quote, backslash}
+use Rattle.meaning.specs.Ascii.{line_feed, carriage_return, quote, backslash}
 use Rattle.meaning.specs.Quoted.{class}
 use Rattle.meaning.specs.Reading.{character, quoted_front, prepend, characters}
 use Rattle.literal_laws.specs.Characters.{prepend_nothing, prepend_twice, character_read}

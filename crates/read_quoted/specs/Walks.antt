@@ -1,9 +1,9 @@
 -- What a walk keeps and what it answers: what it has read is written, and what is left says the rest of the value.
-use Rattle.std.specs.Prelude.{◌≡◌, refl, Bool, true, false, not, ◌&&◌, ◌||◌, List, [], ◌∷◌, ◌++◌, ℕ, ◌+◌, ◌≤◌, ◌<◌, eqb, length, drop, get_or}
+use Rattle.std.specs.Prelude.{◌≡◌, refl, Bool, true, false, not, ◌&&◌, ◌||◌, List, [], ◌∷◌, ◌++◌, ℕ, ◌+◌, ◌≤◌, ◌<◌, eqb, length, drop, get_or, if◌then◌else◌}
 use Rattle.std.proofs.Common.{sym, subst, ◌∙◌, append-nil, arith, drop_of_length-le, drop-drop, ne_eqb}
 use Rattle.std.proofs.Math.Option.{Option, none, some}
 use Rattle.base.specs.Bools.{clash}
-use Rattle.meaning.specs.Ascii.{if◌then◌else◌, line_feed, carriage_return, quote, backslash}
+use Rattle.meaning.specs.Ascii.{line_feed, carriage_return, quote, backslash}
 use Rattle.meaning.specs.Utf8.{encoded}
 use Rattle.meaning.specs.Reading.{character, wrong, escape, quoted_front, prepend, nothing_more, characters}
 use Rattle.literal_laws.specs.Characters.{prepend_nothing, prepend_twice, prepend_some, character_read, closing_read}

@@ -1,8 +1,8 @@
 -- What doing the parts of a node's rule asks, and what is left to ask once some are done.
-use Rattle.std.specs.Prelude.{◌≡◌, Bool, true, false, List, [], ◌∷◌, ℕ, ◌+◌, ◌-◌, ◌<◌}
+use Rattle.std.specs.Prelude.{◌≡◌, Bool, true, false, List, [], ◌∷◌, ℕ, ◌+◌, ◌-◌, ◌<◌, if◌then◌else◌}
 use Rattle.std.proofs.Math.Path.{refl, ap}
 use Rattle.std.proofs.Common.{sym, subst, ◌∙◌}
-use Rattle.meaning.specs.Ascii.{if◌then◌else◌, ascii}
+use Rattle.meaning.specs.Ascii.{ascii}
 use Rattle.meaning.specs.Settings.{Settings, deeper, on_single_line}
 use Rattle.meaning.specs.Table.{end_at, tree_at}
 use Rattle.meaning.specs.Children.{Class, rest, run, past}

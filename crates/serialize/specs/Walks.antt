@@ -1,10 +1,10 @@
 -- Lists of children: what a walk over them writes, a turn at a time, and how its lists are made of it.
-use Rattle.std.specs.Prelude.{◌≡◌, Bool, true, false, ℕ, ◌<◌, length}
+use Rattle.std.specs.Prelude.{◌≡◌, Bool, true, false, ℕ, ◌<◌, length, if◌then◌else◌}
 use Rattle.std.proofs.Math.Path.{refl, sym}
 use Rattle.std.proofs.Common.{ap, subst, ◌∙◌, arith}
 use mathlib.Core.List.{List, [], ◌∷◌, ◌++◌}
 use Rattle.base.specs.Bools.{clash}
-use Rattle.meaning.specs.Ascii.{if◌then◌else◌, ascii}
+use Rattle.meaning.specs.Ascii.{ascii}
 use Rattle.meaning.specs.Settings.{Settings, deeper, new_line, new_line_or_space}
 use Rattle.meaning.specs.Children.{Class, starts, rest, run, past}
 use Rattle.meaning.specs.Layout.{Child, child_in, first_said, each, in_braces, in_commas}

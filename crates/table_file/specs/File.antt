@@ -1,7 +1,7 @@
 -- docs/TABLE-FILE.md, the node table file: the magic `DVTABLE1`, the number of words, the number of pool bytes, the words, the pool, and
 -- nothing after it. A number and a word have four bytes, the lowest first.
-use Rattle.std.specs.Prelude.{Bool, not, List, [], ◌∷◌, ◌++◌, ℕ, zero, suc, ◌+◌, ◌*◌, ◌/◌, ◌%◌, ◌^◌, eqb, ltb, length, take, drop, get_or}
-use Rattle.meaning.specs.Ascii.{if◌then◌else◌, ascii}
+use Rattle.std.specs.Prelude.{Bool, not, List, [], ◌∷◌, ◌++◌, ℕ, zero, suc, ◌+◌, ◌*◌, ◌/◌, ◌%◌, ◌^◌, eqb, ltb, length, take, drop, get_or, if◌then◌else◌}
+use Rattle.meaning.specs.Ascii.{ascii}
 use Rattle.meaning.specs.Text.{same}
 use Rattle.table_file.specs.declared.Head.{Head}
 use Rattle.table_file.specs.declared.Head.TheVariants.{Told, NotATable as NoHead, CutShort}

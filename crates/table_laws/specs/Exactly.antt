@@ -1,7 +1,7 @@
 -- Document 01's refusal table, "given exactly when": the verdict is refusal m at node i exactly if i has the fault m, no smaller node
 -- has it and no node has a lower one; and a table is accepted exactly if it has no fault.
 use Prim.Native.Nat.{ℕ, zero, suc, ◌+◌, ◌≤◌, ◌<◌}
-use Rattle.std.specs.Prelude.{◌≡◌, Bool, true, List, ltb}
+use Rattle.std.specs.Prelude.{◌≡◌, Bool, true, List, ltb, if◌then◌else◌}
 use Rattle.std.proofs.Math.Path.{refl}
 use Rattle.std.proofs.Common.{sym, subst, inl, ⊎_elim, le_antisymm, le_of_suc-le-suc, eq-or-lt_of_le, arith}
 use Rattle.std.proofs.Math.Logic.{inr}
@@ -9,7 +9,6 @@ use Rattle.std.proofs.Math.Bool.{false}
 use Rattle.std.proofs.Math.Decide.{dec_le}
 use borrow.Author.Tests.{ltb-true, ltb-false, ne_eqb}
 use Rattle.base.specs.Bools.{clash}
-use Rattle.meaning.specs.Ascii.{if◌then◌else◌}
 use Rattle.meaning.specs.First.{first, IsFirst}
 use Rattle.meaning.specs.Table.{nodes}
 use Rattle.meaning.specs.Refusals.{size_fault, has_fault, Verdict, accepted, refusal, lowest_from, verdict, Given, Right, ExactlyWhen}

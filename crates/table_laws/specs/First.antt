@@ -1,9 +1,8 @@
 -- The laws of `first`: it is the smallest number at which its test holds, and nothing else is. Every refusal's place rests on these.
-use Rattle.std.specs.Prelude.{◌≡◌, refl, ◌⊎◌, Bool, true, false, ℕ, zero, suc, ◌≤◌, ◌<◌, ltb}
+use Rattle.std.specs.Prelude.{◌≡◌, refl, ◌⊎◌, Bool, true, false, ℕ, zero, suc, ◌≤◌, ◌<◌, ltb, if◌then◌else◌}
 use Rattle.std.proofs.Common.{sym, subst, inl, inr, ⊎_elim, zero-le, suc-le-suc, le_refl, le_trans, le_antisymm, not-suc-le-zero, le_of_suc-le-suc, lt_of_lt_of_le, le_of_eq, lt_irrefl, eq-or-lt_of_le, arith, lt-ltb, le-ltb, ltb-true, ltb-false}
 use Rattle.std.proofs.Math.Nat.{le-suc}
 use Rattle.base.specs.Bools.{clash}
-use Rattle.meaning.specs.Ascii.{if◌then◌else◌}
 use Rattle.meaning.specs.First.{first, some, IsFirst}
 
 pub not_less : {a b : ℕ} → (b < a → ⊥) → a ≤ b

@@ -1,11 +1,10 @@
 -- The laws of sequences at a place of a text: what is left of the text there begins with the byte at that place.
 use Rattle.std.proofs.Math.Path.{◌≡◌, ◌∙◌}
-use Rattle.std.proofs.Common.{sym, ap, add-one, arith, drop-cons, drop-drop}
+use Rattle.std.proofs.Common.{sym, ap, add-one, arith, drop-cons, drop-drop, if◌then◌else◌}
 use Rattle.std.specs.Prelude.{true, false, length, drop}
 use mathlib.Core.List.{List, ◌∷◌}
 use Prim.Native.Nat.{ℕ, ◌+◌, ◌%◌, ◌≤◌, ◌<◌, min}
 use Rattle.std.proofs.Math.ListN.{get_or, drop_of_length-le}
-use Rattle.meaning.specs.Ascii.{if◌then◌else◌}
 use Rattle.meaning.specs.Utf8.{leading_ones, utf8}
 use Rattle.text.specs.Sequence.{good_end, sequence, one_byte_lem, two_bytes_lem, three_bytes_lem, four_bytes_lem, other_bytes_lead_nothing, no_sequence_is_bad, sequence_passes, sequence_is_short}
 

@@ -1,10 +1,9 @@
 -- The sequence that a text begins with, checked whole by its lead byte. A text that is not empty is UTF-8 exactly if it begins with
 -- a good sequence and the rest is UTF-8: the check a byte at a time passes the same bytes, and then stands between sequences again.
-use Rattle.std.specs.Prelude.{◌≡◌, refl, Bool, true, false, not, ◌&&◌, List, [], ◌∷◌, ℕ, zero, suc, ◌+◌, ◌-◌, ◌*◌, ◌%◌, ◌^◌, ◌≤◌, ◌<◌, min, eqb, leb, drop}
+use Rattle.std.specs.Prelude.{◌≡◌, refl, Bool, true, false, not, ◌&&◌, List, [], ◌∷◌, ℕ, zero, suc, ◌+◌, ◌-◌, ◌*◌, ◌%◌, ◌^◌, ◌≤◌, ◌<◌, min, eqb, leb, drop, if◌then◌else◌}
 use Rattle.std.proofs.Common.{sym, ap, ◌∙◌, arith, lt-ltb, le-leb}
 use Rattle.std.proofs.Math.Bool.{and_assoc}
 use Rattle.std.proofs.Math.Decide.{dec_lt, ℕ_discrete}
-use Rattle.meaning.specs.Ascii.{if◌then◌else◌}
 use Rattle.meaning.specs.Utf8.{leading_ones, leads, goes_on, follow, own_bits, least, fine, utf8_after, utf8}
 use Rattle.utf8_laws.specs.Steps.{cut_is_bad, lead_step, next_step, between_sequences, ones_none, ones_one, ones_two, ones_three, ones_four, ones_five, leads_two, leads_three, leads_four}
 use Rattle.utf8_laws.specs.Append.{ascii_first}

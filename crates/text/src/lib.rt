@@ -1,8 +1,7 @@
 // Whether a text is UTF-8. Runs of ASCII are passed many bytes at a turn, any other sequence is checked whole by its lead byte.
 #![tactic(auto)]
 
-ghost use Rattle.std.specs.Prelude.{◌≡◌, ℕ, ◌+◌, ◌≤◌, ◌<◌, min, length, get_or, drop};
-ghost use Rattle.meaning.specs.Ascii.{if◌then◌else◌};
+ghost use Rattle.std.specs.Prelude.{◌≡◌, ℕ, ◌+◌, ◌≤◌, ◌<◌, min, length, get_or, drop, if◌then◌else◌};
 ghost use Rattle.meaning.specs.Utf8.{leading_ones, goes_on, fine, utf8};
 ghost use Rattle.text.specs.Sequence.{good_end, sequence};
 ghost use Rattle.text.specs.Run.{AsciiTo, AsciiRun};

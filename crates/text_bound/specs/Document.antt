@@ -1,11 +1,11 @@
 -- The text of an accepted table's document has less than 2^64 bytes: a node adds at most 25 times 2^28 to the texts of its children, for
 -- its 24 parts and for what its parent writes around it, and there are at most 8,192 nodes.
-use Rattle.std.specs.Prelude.{◌≡◌, Bool, ◌&&◌, List, [], ◌∷◌, ℕ, ◌+◌, ◌*◌, ◌^◌, ◌≤◌, ◌<◌, length}
+use Rattle.std.specs.Prelude.{◌≡◌, Bool, ◌&&◌, List, [], ◌∷◌, ℕ, ◌+◌, ◌*◌, ◌^◌, ◌≤◌, ◌<◌, length, if◌then◌else◌}
 use Rattle.std.proofs.Math.Bool.{true, false}
 use Rattle.std.proofs.Common.{le_refl}
 use native.Mathlib.Omega.{arith}
 use Rattle.std.proofs.Math.ListN.{length-append}
-use Rattle.meaning.specs.Ascii.{if◌then◌else◌, line_feed, space as a_space}
+use Rattle.meaning.specs.Ascii.{line_feed, space as a_space}
 use Rattle.meaning.specs.Tree.{Head, Tree, tree, Forest, none, more}
 use Rattle.meaning.specs.Table.{tree_of}
 use Rattle.meaning.specs.Settings.{Settings, document_levels, settings_fault, deeper, new_line}

@@ -1,6 +1,6 @@
 -- The text of a rule is bounded by what its parts write of their own and what its children take: each part pays for the children that it
 -- writes and leaves the rest to the parts after it, so no child is paid for twice.
-use Rattle.std.specs.Prelude.{◌≡◌, Bool, length}
+use Rattle.std.specs.Prelude.{◌≡◌, Bool, length, if◌then◌else◌}
 use Rattle.std.proofs.Math.Bool.{true, false}
 use mathlib.Core.List.{List, [], ◌∷◌, ◌++◌}
 use Prim.Native.Nat.{ℕ, zero, suc, ◌+◌, ◌*◌, ◌≤◌}
@@ -9,7 +9,7 @@ use native.Mathlib.Omega.{arith}
 use Rattle.std.proofs.Math.ListN.{length-append}
 use borrow.Author.Tests.{leb-true}
 use Rattle.base.specs.Bools.{and_left, and_right}
-use Rattle.meaning.specs.Ascii.{if◌then◌else◌, ascii, space as a_space}
+use Rattle.meaning.specs.Ascii.{ascii, space as a_space}
 use Rattle.meaning.specs.Tree.{Head}
 use Rattle.meaning.specs.Settings.{Settings, deeper, on_single_line, new_line_or_space as line_or_space}
 use Rattle.meaning.specs.Children.{Class, rest, run, past}

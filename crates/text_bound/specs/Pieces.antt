@@ -1,10 +1,10 @@
 -- What a part writes of its own is far below 2^28 bytes: new lines by the bound on levels and prefix, literals by their own bounds.
-use Rattle.std.specs.Prelude.{Bool, List, [], ◌∷◌, ℕ, ◌+◌, ◌*◌, ◌^◌, ◌≤◌}
+use Rattle.std.specs.Prelude.{Bool, List, [], ◌∷◌, ℕ, ◌+◌, ◌*◌, ◌^◌, ◌≤◌, if◌then◌else◌}
 use Rattle.std.proofs.Math.Bool.{true, false}
 use Rattle.std.proofs.Math.Nat.{mul-le-mul}
 use native.Mathlib.Omega.{arith}
 use Rattle.std.proofs.Math.ListN.{length}
-use Rattle.meaning.specs.Ascii.{if◌then◌else◌, line_feed, space}
+use Rattle.meaning.specs.Ascii.{line_feed, space}
 use Rattle.meaning.specs.Settings.{Settings, indentation, new_line, new_line_or_space}
 use Rattle.meaning.specs.Literal.{takes_block, literal}
 use Rattle.meaning.specs.Demand.{line_feeds, quoted_bound, block_bound}

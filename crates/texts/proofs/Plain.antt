@@ -1,7 +1,7 @@
 -- Why a look through the window is enough: a text of a name's bytes that is within its kind's limits fits, and a text of ASCII is UTF-8.
 -- The tables are right by a test that is computed over all of their entries.
 use Rattle.std.proofs.Math.Path.{◌≡◌, ap, ◌∙◌}
-use Rattle.std.specs.Prelude.{refl, Bool, true, false, eqb, leb, length, drop}
+use Rattle.std.specs.Prelude.{refl, Bool, true, false, eqb, leb, length, drop, if◌then◌else◌}
 use Rattle.std.proofs.Common.{arith, length-drop, length-take-le}
 use Rattle.std.proofs.Math.Bool.{◌||◌}
 use mathlib.Core.List.{List, [], ◌∷◌}
@@ -13,7 +13,7 @@ use Rattle.std.proofs.Math.Seq.{get_or-take, get_or-drop}
 use borrow.Author.Tests.{eqb-true, eq-eqb, ne_eqb, lt-leb}
 use Rattle.base.specs.Bools.{clash, and_false}
 use Rattle.base.specs.Finite.{all, below}
-use Rattle.meaning.specs.Ascii.{if◌then◌else◌, ascii}
+use Rattle.meaning.specs.Ascii.{ascii}
 use Rattle.meaning.specs.Utf8.{utf8}
 use Rattle.meaning.specs.Kind
 use Rattle.meaning.specs.Children.{TextRule, no_text, name, name_or_empty, fragment_name, enum_name, float, int, any_text, row_of}

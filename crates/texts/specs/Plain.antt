@@ -1,6 +1,5 @@
 -- Texts that a look at a few bytes at once shows to fit: the tables that say where to look, and what looking at a byte gives.
-use Rattle.std.specs.Prelude.{◌≡◌, ◌||◌, List, ℕ, ◌+◌, ◌-◌, ◌*◌, ◌<◌, min, get_or}
-use Rattle.meaning.specs.Ascii.{if◌then◌else◌}
+use Rattle.std.specs.Prelude.{◌≡◌, ◌||◌, List, ℕ, ◌+◌, ◌-◌, ◌*◌, ◌<◌, min, get_or, if◌then◌else◌}
 use Rattle.meaning.specs.Kind
 use Rattle.meaning.specs.Children.{TextRule, no_text, name, name_or_empty, fragment_name, enum_name, float, int, any_text, row_of}
 use Rattle.meaning.specs.Text.{starts_name, is_digit}

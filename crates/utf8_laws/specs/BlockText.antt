@@ -1,12 +1,12 @@
 -- The block form of a UTF-8 value is UTF-8: its lines are split at an ASCII byte, an escape puts ASCII in front of ASCII quotes, and
 -- the quotes, line feeds and indentation around them are ASCII.
-use Rattle.std.specs.Prelude.{◌≡◌, Bool, ◌&&◌, ◌||◌, ℕ, ◌<◌, eqb, ltb}
+use Rattle.std.specs.Prelude.{◌≡◌, Bool, ◌&&◌, ◌||◌, ℕ, ◌<◌, eqb, ltb, if◌then◌else◌}
 use Rattle.std.proofs.Math.Path.{refl, ap}
 use Rattle.std.proofs.Common.{sym, ◌∙◌, arith, eqb-true, lt-ltb}
 use Rattle.std.proofs.Math.Bool.{true, false}
 use mathlib.Core.List.{List, [], ◌∷◌, ◌++◌, append_assoc}
 use Rattle.base.specs.Bools.{clash, and_left, and_right, and_both}
-use Rattle.meaning.specs.Ascii.{if◌then◌else◌, tab, line_feed, space, quote, backslash, triple_quote}
+use Rattle.meaning.specs.Ascii.{tab, line_feed, space, quote, backslash, triple_quote}
 use Rattle.meaning.specs.Utf8.{utf8_after, utf8}
 use Rattle.meaning.specs.Settings.{is_blank, blank}
 use Rattle.meaning.specs.Block.{onto, lines, multi_line, three_quotes, escaped_line, block_line, block_lines, block_string}

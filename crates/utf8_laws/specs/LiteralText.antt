@@ -1,9 +1,8 @@
 -- Every literal of a UTF-8 value is UTF-8, since both forms are; its indentation is blank since the prefix is.
-use Rattle.std.specs.Prelude.{◌≡◌, Bool, List, [], ◌∷◌, ◌++◌, ℕ, zero, suc}
+use Rattle.std.specs.Prelude.{◌≡◌, Bool, List, [], ◌∷◌, ◌++◌, ℕ, zero, suc, if◌then◌else◌}
 use Rattle.std.proofs.Math.Path.{refl}
 use Rattle.std.proofs.Math.Bool.{true, false}
 use Rattle.base.specs.Bools.{and_left, and_right, and_both}
-use Rattle.meaning.specs.Ascii.{if◌then◌else◌}
 use Rattle.meaning.specs.Utf8.{utf8}
 use Rattle.meaning.specs.Settings.{Settings, is_blank, blank, times, indentation}
 use Rattle.meaning.specs.Quoted.{quoted}

@@ -1,10 +1,9 @@
 -- With `left` bytes to come after the value n, what is to be checked from `at` on is what was to be checked at first: each turn reads
 -- one byte of it. At most 23 bits come together, so no sum wraps.
 use Rattle.std.proofs.Math.Path.{◌∙◌}
-use Rattle.std.specs.Prelude.{refl, Bool, drop}
+use Rattle.std.specs.Prelude.{refl, Bool, drop, if◌then◌else◌}
 use Rattle.std.proofs.Common.{sym, ap, arith}
 use Prim.Native.Nat.{◌+◌}
-use Rattle.meaning.specs.Ascii.{if◌then◌else◌}
 use Rattle.text.proofs.Ends.{end_stops, end_goes_on, end_is_reached, room_at_first, room_for_six_bits}
 use Rattle.text.proofs.end_at.Goals as goal
 
