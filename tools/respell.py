@@ -6,7 +6,7 @@ usage: tools/respell.py [--check] [FOLDER]
 A name is turned where some .antt file of crates/ declares it and it holds a dash or a capital behind a small letter: `settingsFault` and
 `settings-fault` become `settings_fault`. Names that begin with a capital are types and modules, and stay. Where two names would fall
 together, or the new one already stands in a file with another meaning, LEM and OTHER say what is written in place of it.
-It reads crates/, docs/, README.md and .ci/; --check only lists the names and what falls together. Run it once, after the kit's script.
+It reads crates/, docs/ and README.md; --check only lists the names and what falls together. Run it once, after the kit's script.
 """
 import collections
 import os

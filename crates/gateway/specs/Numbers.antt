@@ -1,7 +1,7 @@
 -- What the C interface tells of an answer: its number, its length and, of a reading, its form.
 use Rattle.std.specs.Prelude.{◌≡◌, refl, List, ℕ}
 use Rattle.std.proofs.Common.{sym, ap, subst, ◌∙◌}
-use Rattle.std.proofs.Math.Option.{Option, none, some}
+use Rattle.std.proofs.Math.Option.{Option, some}
 use Rattle.meaning.specs.Reading.{Form}
 use Rattle.meaning.specs.Answers.{Answer, checked_answer, reading_answer, form_read}
 use Rattle.meaning.specs.Entries.{Outcome}

@@ -1,6 +1,6 @@
 -- The same of what the checker's stages and the readers of vectors are made of.
-use Rattle.std.specs.Prelude.{ℕ, ◌≡◌, List, length, drop}
-use Rattle.std.proofs.Common.{sym, ap, ◌∙◌, arith, length-drop}
+use Rattle.std.specs.Prelude.{ℕ, ◌≡◌, List, length}
+use Rattle.std.proofs.Common.{ap, arith, length-drop}
 use Rattle.meaning.specs.declared.NodeNumber.{NodeNumber}
 use Rattle.table.specs.Words.{Small}
 use Rattle.vector_lines.specs.Parts.{Past}

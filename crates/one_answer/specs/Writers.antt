@@ -1,10 +1,9 @@
 -- The same of the writers that the entries are made of: the output and where the pen and the walk stand.
-use Rattle.std.specs.Prelude.{ℕ, ◌≡◌, Bool, List, []}
-use Rattle.std.proofs.Common.{sym, ap, ◌∙◌}
+use Rattle.std.specs.Prelude.{ℕ, ◌≡◌, List, []}
+use Rattle.std.proofs.Common.{ap, ◌∙◌}
 use Rattle.meaning.specs.Settings.{Settings}
 use Rattle.meaning.specs.Rules.{Part}
 use Rattle.meaning.specs.Layout.{Child}
-use Rattle.meaning.specs.declared.NodeNumber.{NodeNumber}
 use Rattle.pen.specs.declared.Pen.{Pen}
 use Rattle.pen.specs.Wrote.{AtStart, Wrote}
 use Rattle.layout.specs.declared.Walk.{Walk}

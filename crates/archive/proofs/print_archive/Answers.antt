@@ -1,5 +1,4 @@
 -- The tests of the code are those of `archived`, in its order.
-use Rattle.std.proofs.Common.{rules}
 use Rattle.archive.proofs.Archives.{within, front_length, too_long, no_table, wrong_length, too_many, a_table}
 use Rattle.archive.proofs.print_archive.Goals as goal
 

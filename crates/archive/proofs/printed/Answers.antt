@@ -1,5 +1,4 @@
 -- The three numbers of the answer.
-use Rattle.std.proofs.Common.{rules}
 use Rattle.archive.proofs.printed.Goals as goal
 
 pub returns : goal.returns

@@ -1,5 +1,5 @@
 -- A front that is as long as the whole is the whole.
-use Rattle.std.proofs.Common.{sym, arith, length-take, rules}
+use Rattle.std.proofs.Common.{sym, arith, length-take}
 use Rattle.std.proofs.Math.Seq.{take_all}
 use Rattle.archive.proofs.text.Goals as goal
 

@@ -1,6 +1,5 @@
 -- The head decides, and of one that tells a length, whether that is too long.
 use Rattle.std.proofs.Math.Path.{◌∙◌}
-use Rattle.std.proofs.Common.{rules}
 use Rattle.archive.proofs.Archives.{head_none, head_short, told_too_long, told_other}
 use Rattle.archive.proofs.too_long.Goals as goal
 

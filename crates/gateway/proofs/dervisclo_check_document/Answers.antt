@@ -2,7 +2,6 @@
 use Rattle.std.proofs.Math.Path.{◌∙◌}
 use Rattle.gateway.specs.Numbers.{told_place}
 use Rattle.gateway.specs.Switches.{no_such_switch, switch_tells}
-use Rattle.std.proofs.Common.{rules}
 use Rattle.gateway.proofs.dervisclo_check_document.Goals as goal
 
 pub returns-then-breaks-gt1 : goal.returns-then-breaks-gt1

@@ -1,6 +1,5 @@
 -- `gateway::dervisclo_check_table` meets its contract: the answer is that of `check_table::check_table`.
 use Rattle.gateway.specs.Numbers.{told_place}
-use Rattle.std.proofs.Common.{rules}
 use Rattle.gateway.proofs.dervisclo_check_table.Goals as goal
 
 pub returns : goal.returns

@@ -1,6 +1,6 @@
 -- `gateway::dervisclo_print_literal` meets its contract: a number that is no switch is refused, and otherwise the answer is that of `literal::print_literal`.
 use Rattle.std.specs.Prelude.{refl}
-use Rattle.std.proofs.Common.{sym, rules}
+use Rattle.std.proofs.Common.{sym}
 use Rattle.std.proofs.Math.Path.{◌∙◌}
 use Rattle.gateway.specs.Numbers.{told_by}
 use Rattle.gateway.specs.Switches.{no_such_breaks, no_such_kind, switches_tell}

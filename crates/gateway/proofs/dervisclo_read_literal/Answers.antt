@@ -1,6 +1,5 @@
 -- `gateway::dervisclo_read_literal` meets its contract: the answer is that of `reader::read_literal`, taken apart.
 use Rattle.gateway.specs.Numbers.{told_refusal, told_value}
-use Rattle.std.proofs.Common.{rules}
 use Rattle.gateway.proofs.dervisclo_read_literal.Goals as goal
 
 pub returns-in_default : goal.returns-in_default

@@ -1,9 +1,14 @@
--- No more came than `buf` has room for.
-use Rattle.std.proofs.Common.{length, ◌-◌, ◌≤◌}
+-- What came so far is what the reader gave, and there was room for it.
+use Rattle.std.proofs.Common.{length, take, ◌-◌, ◌≤◌}
+use Rattle.std.specs.Io.KnownBytes.{Consumes}
 use Rattle.input.proofs.read_full.Given as goal
 
 abbrev pub invariant-loop-n : goal.invariant-loop-n
-invariant-loop-n g l = l.n ≤ length l.buf
+invariant-loop-n g l =
+    record {
+      fits : l.n ≤ length l.buf;
+      came : Consumes (g.R.Read.remaining l.initial.reader) (g.R.Read.remaining l.reader) (take l.n l.buf);
+    }
 
 abbrev pub decreases-loop-n : goal.decreases-loop-n
 decreases-loop-n g l = length l.initial.buf - l.n
