@@ -9,7 +9,7 @@ use Rattle.meaning.specs.Table.{nodes, kind_at, end_at}
 use Rattle.meaning.specs.Refusals.{size_fault, node_fault, nesting_fault, deepest, depth_at, depth_fault, has_fault, Accepted}
 use Rattle.table_laws.specs.First.{some_none}
 use Rattle.tree_laws.specs.Forest.{Shaped}
-use Rattle.nodes.specs.Sound.{Sound, sound}
+use Rattle.table_laws.specs.Sound.{Sound, sound}
 
 -- ---- the tests
 
@@ -88,3 +88,6 @@ module _ {w p : List ℕ} (ok : Accepted w p) where
 
   pub accepted_whole : end_at w 0 ≡ nodes w
   accepted_whole = accepted_sound.whole accepted_some_node
+
+  pub accepted_kind : (i : ℕ) → i < nodes w → kind_at w i < Kind.count
+  accepted_kind = accepted_sound.kind

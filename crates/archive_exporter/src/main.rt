@@ -4,24 +4,19 @@
 
 use std::io;
 
-fn refused(rt: &impl Eprint, number: u64, place: u64) -> io::Result<()> {
-    eprint!(rt; "refused with {number} at {place}\n")
-}
-
 fn export<R: Print + Eprint>(
     rt: &R,
     file: &[u8],
     words: &mut [u32],
     out: &mut [u8],
 ) -> io::Result<()> {
-    let archived = archive::print_archive(file, words, out);
-    if archived.number != 0 {
-        return refused(rt, archived.number, archived.place);
+    match archive::print_archive(file, words, out) {
+        Ok(length) => rt.write_all(archive::text(out, length)),
+        Err(refused) => eprint!(rt; "{refused}\n"),
     }
-    rt.write_all(archive::text(out, archived.length))
 }
 
-// The longest file that is looked at, and a byte more; the words of 8,192 nodes; the longest text.
+// Fixed memory, no heap: the longest file that is looked at, and a byte more; the words of 8,192 nodes; the longest text.
 fn main(rt: HostRuntime) -> io::Result<()> {
     let mut file = [0u8; 229_393];
     let mut words = [0u32; 40_960];

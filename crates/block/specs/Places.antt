@@ -1,6 +1,11 @@
 -- Places found in a value: how far it is to the first place where a test of what follows holds, and what a walk towards it keeps.
-use Rattle.std.specs.Prelude.{◌≡◌, refl, Bool, true, false, not, ◌||◌, List, [], ◌∷◌, ℕ, zero, suc, ◌+◌, ◌-◌, ◌≤◌, ◌<◌, eqb, length, take, drop, get_or, if◌then◌else◌}
-use Rattle.std.proofs.Common.{sym, ◌∙◌, arith, length-drop, drop_of_length-le, drop-drop}
+use Rattle.std.specs.Prelude.{◌≡◌, refl, Bool, true, false, not, ◌||◌, cond, Some, None, ltb, List, [], ◌∷◌, ◌++◌, ℕ, zero, suc, ◌+◌, ◌-◌, ◌≤◌, ◌<◌, eqb, length, take, drop, get_or, if◌then◌else◌}
+use Rattle.std.specs.List.{position, position_or_len}
+use Rattle.std.specs.Option.{unwrap_or}
+use Rattle.std.proofs.Common.{sym, ap, ◌∙◌, arith, lt-ltb, le-ltb, length-append, length-drop, drop_of_length-le, drop-drop}
+use Rattle.std.proofs.Math.Decide.{dec_lt}
+use Rattle.std.proofs.Math.Seq.{take-append_seam, drop-append_seam}
+use Rattle.std.proofs.lemmas.List.Recursion.{is_position_or_len}
 use Rattle.std.proofs.Math.Bool.{or-false, or_assoc}
 use Rattle.base.specs.Bools.{clash, or_left_false, or_right_false}
 use Rattle.meaning.specs.Ascii.{line_feed, carriage_return}
@@ -173,9 +178,74 @@ clear_part a c {v} {j} {e} f w p q =
       within = w;
     }
 
+-- a part in front of the rest, without either byte
+pub clear_next : (a c : ℕ) {v : List ℕ} (part : List ℕ) {rest : List ℕ} {i j : ℕ} → Clear (byte_that (is_either a c)) v i j → drop j v ≡ part ++ rest
+    → has a part ≡ false → has c part ≡ false
+    → Clear (byte_that (is_either a c)) v i (j + length part) × (rest ≡ drop (j + length part) v)
+clear_next a c {v} part {rest} {i} {j} clear e p q =
+    let n = length part in
+    let m : j + n - j ≡ n = omega arith in
+    let front : take n (drop j v) ≡ part = rw e (take-append_seam part rest) in
+    let within : j + n ≤ length v = omega (arith, length-drop j v, ap length e, length-append part rest) in (
+      clear_on clear (clear_part a c (omega arith) within (rw (m, front) p) (rw (m, front) q)),
+      sym (drop-append_seam part rest) ∙ rw (← e, drop-drop n j v),
+    )
+
 pub is_either_lem : (a : ℕ) (w : List ℕ) → byte_that (is_either a a) w ≡ false → byte_that (is a) w ≡ false
 is_either_lem a [] h = refl
 is_either_lem a (b ∷ w) h = or_left_false (eqb b a) (eqb b a) h
+
+either_is_lem : (a : ℕ) (w : List ℕ) → byte_that (is a) w ≡ false → byte_that (is_either a a) w ≡ false
+either_is_lem a [] h = refl
+either_is_lem a (b ∷ w) h = rw h refl
+
+-- ---- the library's search
+
+at_front : (x : Bool) (n : ℕ) → (if x then 0 else suc n) ≡ cond x 0 (1 + n)
+at_front true n = refl
+at_front false n = omega arith
+
+up_to_is_position : (p : ℕ → Bool) (v : List ℕ) → up_to (byte_that p) v ≡ position_or_len p v
+unfolding up_to
+up_to_is_position p v = is_position_or_len (up_to (byte_that p)) p refl (λ b w. at_front (p b) (up_to (byte_that p) w)) v
+
+up_to_within : (t : List ℕ → Bool) (v : List ℕ) → up_to t v ≤ length v
+unfolding up_to
+up_to_within t [] = omega arith
+up_to_within t (b ∷ v) = go (t (b ∷ v)) (up_to_within t v)
+  where
+    go : (x : Bool) → up_to t v ≤ length v → (if x then 0 else suc (up_to t v)) ≤ suc (length v)
+    go true h = omega arith
+    go false h = omega arith
+
+up_to_by_position : (p : ℕ → Bool) (v : List ℕ) → unwrap_or (position p v) (length v) ≡ up_to (byte_that p) v
+up_to_by_position p v = rw (← up_to_is_position p v) (go (dec_lt (up_to (byte_that p) v) (length v)))
+  where
+    n : ℕ
+    n = up_to (byte_that p) v
+
+    go : Dec (n < length v) → unwrap_or (cond (ltb n (length v)) (Some n) None) (length v) ≡ n
+    go (yes h) = rw (lt-ltb n (length v) h) refl
+    go (no h) = rw (le-ltb n (length v) (omega arith)) (omega (arith, up_to_within (byte_that p) v))
+
+-- the place is where the library finds it, behind a part that is clear
+pub found_by_position : (p : ℕ → Bool) {v : List ℕ} {i j r : ℕ} → Clear (byte_that p) v i j
+    → r ≡ j + unwrap_or (position p (drop j v)) (length (drop j v)) → First (byte_that p) v i r
+found_by_position p {v} {i} {j} {r} c e =
+    let n = up_to (byte_that p) (drop j v) in
+    let f : r ≡ j + n = e ∙ rw (up_to_by_position p (drop j v)) in
+    record {
+      here = omega (arith, same_place c, f);
+      within = omega (arith, f, c.within, up_to_within (byte_that p) (drop j v), length-drop j v);
+    }
+
+-- one byte asked for twice
+pub first_of_one : (a : ℕ) {v : List ℕ} {i r : ℕ} → First (byte_that (is_either a a)) v i r → First (byte_that (is a)) v i r
+first_of_one a {v} {i} f =
+    let w = drop i v in
+    let sooner = no_sooner (byte_that (is a)) (byte_that (is_either a a)) (either_is_lem a) w in
+    let later = no_sooner (byte_that (is_either a a)) (byte_that (is a)) (is_either_lem a) w in
+    record { here = omega (arith, f.here, sooner, later); within = f.within }
 
 -- ---- a byte among others
 
@@ -199,3 +269,9 @@ seen_one {c} {v} {i} {seen} s h =
 pub seen_all : {c : ℕ} {v : List ℕ} {i : ℕ} {seen : Bool} → Seen c v i seen → length v ≤ i → seen ≡ has c v
 unfolding has
 seen_all {c} {v} {i} {seen} s h = sym (or-false seen) ∙ rw (drop_of_length-le v h) at s.all
+
+-- the bytes one at a time from the front
+pub has_more : (c : ℕ) (v : List ℕ) (b : ℕ) → has c v || eqb b c ≡ has c (v ++ (b ∷ []))
+unfolding has
+has_more c [] b = sym (or-false (eqb b c))
+has_more c (a ∷ v) b = or_assoc (eqb a c) (has c v) (eqb b c) ∙ ap (λ x. eqb a c || x) (has_more c v b)

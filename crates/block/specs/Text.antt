@@ -1,6 +1,9 @@
 -- The text of a block string in the order in which it is written, and when it stands on several lines.
-use Rattle.std.specs.Prelude.{◌≡◌, refl, Bool, true, false, ◌||◌, List, [], ◌∷◌, ◌++◌, ℕ, suc, ◌+◌, ◌-◌, ◌≤◌, ◌<◌, eqb, length, take, drop, get_or, if◌then◌else◌}
-use Rattle.std.proofs.Common.{◌∙◌, append_assoc, arith, lt-ltb, le-ltb}
+use Rattle.std.specs.Prelude.{◌≡◌, refl, Bool, true, false, ◌||◌, List, [], ◌∷◌, ◌++◌, ℕ, suc, ◌+◌, ◌-◌, ◌≤◌, ◌<◌, eqb, ltb, Option, length, take, drop, get_or, if◌then◌else◌}
+use Rattle.std.specs.List.{slice_get}
+use Rattle.std.specs.Option.{unwrap_or}
+use Rattle.std.proofs.lemmas.Option.{unwrap_or-slice_get}
+use Rattle.std.proofs.Common.{sym, ◌∙◌, append_assoc, arith, lt-ltb, le-ltb}
 use Rattle.std.proofs.Math.Bool.{or-true}
 use Rattle.meaning.specs.Ascii.{line_feed, quote, backslash, triple_quote}
 use Rattle.meaning.specs.Block.{lines, has, last_byte, multi_line, escaped_line, block_line, block_lines, block_string}
@@ -16,6 +19,23 @@ last_byte_at (b ∷ []) h = refl
 last_byte_at (b ∷ (c ∷ v)) h =
     let n : length (b ∷ (c ∷ v)) - 1 ≡ suc (length (c ∷ v) - 1) = omega arith in
     last_byte_at (c ∷ v) (omega arith) ∙ rw n
+
+-- the last byte as the library finds it; 0 of the empty value
+pub last_byte_found : (v : List ℕ) (o : Option ℕ) → o ≡ slice_get v (length v - 1) → last_byte v ≡ unwrap_or o 0
+last_byte_found [] o e = unfold last_byte in rw e refl
+last_byte_found (b ∷ v) o e = last_byte_at (b ∷ v) (omega arith) ∙ rw e (sym (unwrap_or-slice_get (b ∷ v) (length (b ∷ v) - 1) 0))
+
+-- the tests in the order in which they are made
+pub multi_line_by_tests : (v : List ℕ)
+    → multi_line v ≡ (ltb 70 (length v) || has line_feed v) || (eqb (last_byte v) quote || eqb (last_byte v) backslash)
+unfolding multi_line
+multi_line_by_tests v = go (has line_feed v) (ltb 70 (length v)) (eqb (last_byte v) quote || eqb (last_byte v) backslash)
+  where
+    go : (x y z : Bool) → x || (y || z) ≡ (y || x) || z
+    go true true z = refl
+    go true false z = refl
+    go false true z = refl
+    go false false z = refl
 
 module _ (v : List ℕ) where
   pub long_is_multi_line : 70 < length v → multi_line v ≡ true

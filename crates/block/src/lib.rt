@@ -1,31 +1,22 @@
 // Block strings: whether a value can be written as one, and its text.
 #![tactic(auto)]
 
-ghost use Rattle.std.specs.Prelude.{◌≡◌, ◌∷◌, ◌≤◌, length, drop};
-ghost use Rattle.meaning.specs.Ascii.{line_feed};
+ghost use Rattle.std.specs.Prelude.{◌≡◌, ◌==◌, ◌||◌, ◌≤◌, length};
+ghost use Rattle.meaning.specs.Ascii.{line_feed, quote, backslash};
 ghost use Rattle.meaning.specs.Settings.{times};
-ghost use Rattle.meaning.specs.Block.{has, can_be_block_string, multi_line, three_quotes, escaped_line, lines, block_line, block_lines, block_string};
+ghost use Rattle.meaning.specs.Block.{has, can_be_block_string, last_byte, multi_line, three_quotes, escaped_line, lines, block_line, block_lines, block_string};
 ghost use Rattle.pen.specs.Wrote.{Wrote};
-ghost use Rattle.block.specs.Places.{First, Clear, byte_that, is, is_either, is_line_end, is_text};
+ghost use Rattle.block.specs.Places.{First, Clear, byte_that, is, is_either, is_text};
 ghost use Rattle.block.specs.Text.{between};
 
 use pen::Pen;
+use settings::Settings;
 
-const TRIPLE_QUOTE: [u8; 3] = [b'"', b'"', b'"'];
-
-const ESCAPED_TRIPLE_QUOTE: [u8; 4] = [b'\\', b'"', b'"', b'"'];
-
-// Whether `byte` is among the bytes. There is no early exit, so that the loop compares many bytes at once.
+// Whether `byte` is among the bytes. There is no early exit, so that many bytes are compared at once.
 fn contains(bytes: &[u8], byte: u8) -> bool
     ensures { result ≡ has byte bytes.now }
 {
-    let mut seen = false;
-    let mut i = 0;
-    while i < bytes.len() {
-        seen = seen | (bytes[i] == byte);
-        i += 1;
-    }
-    seen
+    bytes.iter().fold(false, |seen, b| seen | (*b == byte))
 }
 
 // Some place up to which there is no `a` and no `b` from `from` on: sixteen bytes further at a time, while neither is among them.
@@ -33,18 +24,25 @@ fn skip_without(value: &[u8], from: usize, a: u8, b: u8) -> usize
     requires { from ≤ length value.now }
     ensures { Clear (byte_that (is_either a b)) value.now from result }
 {
-    let mut i = from;
-    while 16 <= value.len() - i {
-        let part = &value[i..i + 16];
-        if contains(part, a) {
-            return i;
+    let mut clear = from;
+    for part in value[from..].chunks_exact(16) {
+        if contains(part, a) || contains(part, b) {
+            break;
         }
-        if contains(part, b) {
-            return i;
-        }
-        i += 16;
+        clear += part.len();
     }
-    i
+    clear
+}
+
+// The first `a` or `b` from `from` on, or the end.
+fn find_either(value: &[u8], from: usize, a: u8, b: u8) -> usize
+    requires { from ≤ length value.now }
+    ensures { First (byte_that (is_either a b)) value.now from result }
+{
+    let start = skip_without(value, from, a, b);
+    let rest = &value[start..];
+    let run = rest.iter().position(|byte| (*byte == a) | (*byte == b));
+    start + run.unwrap_or(rest.len())
 }
 
 // The first `byte` from `from` on, or the end.
@@ -52,33 +50,7 @@ fn find(value: &[u8], from: usize, byte: u8) -> usize
     requires { from ≤ length value.now }
     ensures { First (byte_that (is byte)) value.now from result }
 {
-    let mut i = skip_without(value, from, byte, byte);
-    while i < value.len() {
-        if value[i] == byte {
-            return i;
-        }
-        i += 1;
-    }
-    i
-}
-
-// The first LF or CR from `from` on, or the end.
-fn find_line_end(value: &[u8], from: usize) -> usize
-    requires { from ≤ length value.now }
-    ensures { First (byte_that is_line_end) value.now from result }
-{
-    let mut i = skip_without(value, from, b'\n', b'\r');
-    while i < value.len() {
-        let b = value[i];
-        if b == b'\n' {
-            return i;
-        }
-        if b == b'\r' {
-            return i;
-        }
-        i += 1;
-    }
-    i
+    find_either(value, from, byte, byte)
 }
 
 // The first byte from `from` on that is neither space nor tab, or the end.
@@ -86,14 +58,9 @@ fn skip_whitespace(value: &[u8], from: usize) -> usize
     requires { from ≤ length value.now }
     ensures { First (byte_that is_text) value.now from result }
 {
-    let mut i = from;
-    while i < value.len() {
-        if !marks::is_blank(value[i]) {
-            return i;
-        }
-        i += 1;
-    }
-    i
+    let rest = &value[from..];
+    let run = rest.iter().position(|byte| !marks::is_blank(*byte));
+    from + run.unwrap_or(rest.len())
 }
 
 // Whether a block string can have this value: no CR, first and last line not blank, and some line begins with text, since an indent
@@ -103,11 +70,12 @@ pub fn can_be_block_string(value: &[u8]) -> bool
 {
     let mut unindented = false;
     let mut from = 0;
+    // A `loop`: it goes from one line's end to the next, sixteen bytes at a time, and counts nothing. `split` looks at each byte.
     loop {
         let text = skip_whitespace(value, from);
-        let end = find_line_end(value, text);
+        let end = find_either(value, text, b'\n', b'\r');
         let blank = text == end;
-        unindented = unindented | (!blank & (text == from));
+        unindented |= !blank & (text == from);
         if end == value.len() {
             return !blank & unindented;
         }
@@ -127,24 +95,21 @@ pub fn contains_newline(value: &[u8]) -> bool
     contains(value, b'\n')
 }
 
-// Whether the text takes several lines: LF, over 70 bytes, or a quote or a backslash at the end, which would run into the quotes.
+// A quote or a backslash at the end, which would run into the quotes.
+fn runs_into_quotes(value: &[u8]) -> bool
+    ensures { result ≡ (last_byte value.now == quote || last_byte value.now == backslash) }
+{
+    match value.last() {
+        Some(last) => (*last == b'"') | (*last == b'\\'),
+        None => false,
+    }
+}
+
+// Whether the text takes several lines.
 fn multi_line(value: &[u8]) -> bool
     ensures { result ≡ multi_line value.now }
 {
-    let n = value.len();
-    if n > 70 {
-        return true;
-    }
-    if contains_newline(value) {
-        return true;
-    }
-    if n == 0 {
-        return false;
-    }
-    if value[n - 1] == b'"' {
-        return true;
-    }
-    value[n - 1] == b'\\'
+    value.len() > 70 || contains_newline(value) || runs_into_quotes(value)
 }
 
 // The first three quotes from `from` on, or the end.
@@ -152,97 +117,75 @@ fn find_triple_quote(line: &[u8], from: usize) -> usize
     requires { from ≤ length line.now }
     ensures { First three_quotes line.now from result }
 {
-    let mut i = from;
-    loop {
-        let quote = find(line, i, b'"');
-        if quote == line.len() {
-            return quote;
-        }
-        if marks::three_quotes(line, quote) {
-            return quote;
-        }
-        i = quote + 1;
+    let mut quote = find(line, from, b'"');
+    // A `while`: it goes from quote to quote, sixteen bytes at a time, and counts nothing.
+    while quote < line.len() && !marks::three_quotes(line, quote) {
+        quote = find(line, quote + 1, b'"');
     }
+    quote
 }
 
 // The bytes of a line, with a backslash before each three quotes.
-fn serialize_line(line: &[u8], out: &mut [u8], pen: Pen) -> Pen
-    ensures { Wrote out.old pen (escaped_line line.now) out.new result }
+fn serialize_line(line: &[u8], pen: &mut Pen)
+    ensures { Wrote pen.old (escaped_line line.now) pen.new }
 {
-    let mut p = pen;
     let mut from = 0;
+    // A `loop`: it goes from one three quotes to the next, and counts nothing.
     loop {
         let quotes = find_triple_quote(line, from);
-        p = pen::write(out, p, &line[from..quotes]);
+        pen.write(&line[from..quotes]);
         if quotes == line.len() {
-            return p;
+            return;
         }
-        p = pen::write(out, p, &ESCAPED_TRIPLE_QUOTE);
+        pen.write(b"\\\"\"\"");
         from = quotes + 3;
     }
 }
 
-// A line break: LF, then the prefix once per level.
-fn new_line(prefix: &[u8], level: usize, out: &mut [u8], pen: Pen) -> Pen
-    ensures { Wrote out.old pen (line_feed ∷ times level prefix.now) out.new result }
-{
-    let p = pen::write_byte(out, pen, b'\n');
-    pen::write_times(out, p, prefix, level)
-}
-
 // A line break and the line. An empty line gets no indent, which would be trailing whitespace.
-fn write_line(line: &[u8], prefix: &[u8], level: usize, out: &mut [u8], pen: Pen) -> Pen
-    ensures { Wrote out.old pen
-        (block_line (times level prefix.now) line.now) out.new result }
+fn write_line(line: &[u8], settings: &Settings, pen: &mut Pen)
+    ensures { Wrote pen.old (block_line (times settings.now.level settings.now.prefix.now) line.now) pen.new }
 {
-    if line.len() == 0 {
-        return pen::write_byte(out, pen, b'\n');
+    if line.is_empty() {
+        pen.write_byte(b'\n');
+    } else {
+        settings.line_break(pen);
+        serialize_line(line, pen);
     }
-    let p = new_line(prefix, level, out, pen);
-    serialize_line(line, out, p)
 }
 
-// Each line on a line of its own.
-fn write_lines(value: &[u8], prefix: &[u8], level: usize, out: &mut [u8], pen: Pen) -> Pen
-    ensures { Wrote out.old pen
-        (block_lines (times level prefix.now) (lines value.now)) out.new result }
+// Each line on a line of its own. `split`, which looks at each byte, was tried: prose as a block then takes a quarter longer.
+fn write_lines(value: &[u8], settings: &Settings, pen: &mut Pen)
+    ensures { Wrote pen.old (block_lines (times settings.now.level settings.now.prefix.now) (lines value.now)) pen.new }
 {
-    let mut p = pen;
     let mut from = 0;
     loop {
         let end = find(value, from, b'\n');
-        p = write_line(&value[from..end], prefix, level, out, p);
+        write_line(&value[from..end], settings, pen);
         if end == value.len() {
-            return p;
+            return;
         }
         from = end + 1;
     }
 }
 
 // What stands between the quotes.
-fn write_between(value: &[u8], prefix: &[u8], level: usize, out: &mut [u8], pen: Pen) -> Pen
-    ensures { Wrote out.old pen
-        (between (times level prefix.now) value.now) out.new result }
+fn write_between(value: &[u8], settings: &Settings, pen: &mut Pen)
+    ensures { Wrote pen.old (between (times settings.now.level settings.now.prefix.now) value.now) pen.new }
 {
-    if !multi_line(value) {
-        return serialize_line(value, out, pen);
+    if multi_line(value) {
+        write_lines(value, settings, pen);
+        settings.line_break(pen);
+    } else {
+        serialize_line(value, pen);
     }
-    let p = write_lines(value, prefix, level, out, pen);
-    new_line(prefix, level, out, p)
 }
 
 // `"""example"""`, or each line on a line of its own between the quotes.
-pub fn write_block_string(
-    value: &[u8],
-    prefix: &[u8],
-    level: usize,
-    out: &mut [u8],
-    pen: Pen,
-) -> Pen
-    ensures { Wrote out.old pen
-        (block_string (times level prefix.now) value.now) out.new result }
+pub fn write_block_string(value: &[u8], settings: &Settings, pen: &mut Pen)
+    ensures { Wrote pen.old (block_string (times settings.now.level settings.now.prefix.now) value.now) pen.new }
 {
-    let p = pen::write(out, pen, &TRIPLE_QUOTE);
-    let q = write_between(value, prefix, level, out, p);
-    pen::write(out, q, &TRIPLE_QUOTE)
+    pen.write(b"\"\"\"");
+    write_between(value, settings, pen);
+    pen.write(b"\"\"\"");
 }

@@ -14,7 +14,7 @@ use Rattle.meaning.specs.Settings.{Settings, document_levels, settings_fault}
 use Rattle.meaning.specs.Entries.{verdict_answer, checked_table, checked_document}
 use Rattle.table_laws.specs.First.{first_is_first}
 use Rattle.nodes.specs.Counted.{Counted}
-use Rattle.nodes.specs.Sound.{Sound, sound}
+use Rattle.table_laws.specs.Sound.{Sound, sound}
 use Rattle.nesting.specs.Links.{EndsWithin}
 use Rattle.depth.specs.Ends.{ProperEnds}
 use Rattle.children.specs.Shaped.{Shaped}

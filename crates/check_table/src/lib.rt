@@ -2,14 +2,14 @@
 #![tactic(auto)]
 
 ghost use Rattle.std.specs.Prelude.{◌≡◌};
-ghost use Rattle.meaning.specs.Settings.{settings};
-ghost use Rattle.meaning.specs.Refusals.{size_fault, lowest_from};
+ghost use Rattle.meaning.specs.Refusals.{size_fault};
 ghost use Rattle.meaning.specs.Answers.{checked_answer};
-ghost use Rattle.meaning.specs.Entries.{verdict_answer, checked_table, checked_document};
-ghost use Rattle.nodes.specs.Counted.{Counted};
-ghost use Rattle.check_table.specs.Stages.{Ready};
+ghost use Rattle.meaning.specs.Entries.{checked_table, checked_document};
+ghost use Rattle.settings.specs.Said.{said};
 
-const WORDS_PER_NODE: usize = 5;
+use meaning::Refusal;
+use settings::Settings;
+use table::{Table, WORDS_PER_NODE};
 
 const MOST_NODES: usize = 8192;
 
@@ -17,99 +17,49 @@ const LARGEST_POOL: usize = 65536;
 
 const DOCUMENT_LEVELS: usize = 64;
 
-fn size_fault(words: &[u32], pool: &[u8]) -> bool
-    ensures { result ≡ size_fault words.now pool.now }
+#[tactic(auto, unfolding(meaning::specs::Refusals::size_fault))]
+fn size_fault(table: &Table) -> bool
+    ensures { result ≡ size_fault table.now.words.now table.now.pool.now }
 {
-    if words.len() % WORDS_PER_NODE != 0 {
-        return true;
-    }
-    let n = words.len() / WORDS_PER_NODE;
-    if n == 0 {
-        return true;
-    }
-    if MOST_NODES < n {
-        return true;
-    }
-    LARGEST_POOL < pool.len()
-}
-
-fn from_texts(words: &[u32], pool: &[u8], n: usize) -> meaning::Checked
-    requires { Ready words.now pool.now n }
-    ensures { checked_answer result ≡ verdict_answer (lowest_from 1 7 words.now pool.now) }
-{
-    let at = texts::first_text_fault(words, pool, n);
-    if at.0 < n {
-        return meaning::Checked::Refused(meaning::Refusal::Text(at));
-    }
-    meaning::Checked::Accepted
-}
-
-fn from_children(words: &[u32], pool: &[u8], n: usize) -> meaning::Checked
-    requires { Ready words.now pool.now n }
-    ensures { checked_answer result ≡ verdict_answer (lowest_from 2 6 words.now pool.now) }
-{
-    let at = children::first_children_fault(words, n);
-    if at.0 < n {
-        return meaning::Checked::Refused(meaning::Refusal::Children(at));
-    }
-    from_texts(words, pool, n)
-}
-
-fn from_depth(words: &[u32], pool: &[u8], n: usize) -> meaning::Checked
-    requires { Ready words.now pool.now n }
-    ensures { checked_answer result ≡ verdict_answer (lowest_from 3 5 words.now pool.now) }
-{
-    let at = depth::first_depth_fault(words, n);
-    if at.0 < n {
-        return meaning::Checked::Refused(meaning::Refusal::Depth(at));
-    }
-    from_children(words, pool, n)
-}
-
-fn from_nesting(words: &[u32], pool: &[u8], n: usize) -> meaning::Checked
-    requires { Ready words.now pool.now n }
-    ensures { checked_answer result ≡ verdict_answer (lowest_from 4 4 words.now pool.now) }
-{
-    let at = nesting::first_nesting_fault(words, n);
-    if at.0 < n {
-        return meaning::Checked::Refused(meaning::Refusal::Nesting(at));
-    }
-    from_depth(words, pool, n)
-}
-
-fn from_nodes(words: &[u32], pool: &[u8], n: usize) -> meaning::Checked
-    requires { Counted words.now n }
-    ensures { checked_answer result ≡ verdict_answer (lowest_from 5 3 words.now pool.now) }
-{
-    let at = nodes::first_node_fault(words, pool, n);
-    if at.0 < n {
-        return meaning::Checked::Refused(meaning::Refusal::Node(at));
-    }
-    from_nesting(words, pool, n)
+    table.words.len() % WORDS_PER_NODE != 0
+        || table.words.is_empty()
+        || MOST_NODES < table.words.len() / WORDS_PER_NODE
+        || LARGEST_POOL < table.pool.len()
 }
 
 // Accepted, or the lowest refusal at its smallest node.
-pub fn check_table(words: &[u32], pool: &[u8]) -> meaning::Checked
-    ensures { checked_answer result ≡ checked_table words.now pool.now }
+pub fn check_table(table: &Table) -> Result<(), Refusal>
+    ensures { checked_answer result ≡ checked_table table.now.words.now table.now.pool.now }
 {
-    if size_fault(words, pool) {
-        return meaning::Checked::Refused(meaning::Refusal::Size);
+    if size_fault(table) {
+        return Err(Refusal::Size);
     }
-    from_nodes(words, pool, words.len() / WORDS_PER_NODE)
+    let n = table.words.len() / WORDS_PER_NODE;
+    if let Some(i) = nodes::first_node_fault(table, n) {
+        return Err(Refusal::Node(i));
+    }
+    if let Some(i) = nesting::first_nesting_fault(table, n) {
+        return Err(Refusal::Nesting(i));
+    }
+    if let Some(i) = depth::first_depth_fault(table, n) {
+        return Err(Refusal::Depth(i));
+    }
+    if let Some(i) = children::first_children_fault(table, n) {
+        return Err(Refusal::Children(i));
+    }
+    if let Some(i) = texts::first_text_fault(table, n) {
+        return Err(Refusal::Text(i));
+    }
+    Ok(())
 }
 
 // The same for a document that is to be printed under these settings.
-pub fn check_document(
-    breaks: bool,
-    prefix: &[u8],
-    level: usize,
-    words: &[u32],
-    pool: &[u8],
-) -> meaning::Checked
-    ensures { checked_answer result ≡ checked_document (settings breaks prefix.now level) words.now pool.now }
+#[tactic(auto, unfolding(meaning::specs::Entries::checked_document))]
+pub fn check_document(settings: &Settings, table: &Table) -> Result<(), Refusal>
+    ensures { checked_answer result ≡ checked_document (said settings.now) table.now.words.now table.now.pool.now }
 {
-    if settings::settings_fault(DOCUMENT_LEVELS, breaks, prefix, level) {
-        return meaning::Checked::Refused(meaning::Refusal::Settings);
+    if settings.are_refused(DOCUMENT_LEVELS) {
+        return Err(Refusal::Settings);
     }
-    check_table(words, pool)
+    check_table(table)
 }

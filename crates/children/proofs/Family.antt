@@ -1,16 +1,10 @@
 -- The children of a node, one after the other: with each node ending after its start, fuel is never short.
-use Prim.Native.Nat.{ℕ, zero, suc, ◌+◌, ◌-◌, ◌≤◌, ◌<◌}
-use Rattle.std.proofs.Math.Path.{◌≡◌, refl, ◌∙◌, ap}
-use Rattle.std.proofs.Common.{sym, arith, lt-ltb, le-ltb, le-leb}
-use Rattle.std.specs.Prelude.{Bool, not, leb}
-use Rattle.std.proofs.Math.Bool.{◌&&◌, ◌||◌}
-use mathlib.Core.List.{List, [], ◌∷◌}
-use Rattle.std.proofs.Math.Nat.{le_refl}
+use Rattle.std.proofs.Common.{ℕ, zero, suc, ◌+◌, ◌-◌, ◌≤◌, ◌<◌, ◌≡◌, refl, ◌∙◌, ap, sym, arith, lt-ltb, le-ltb, le-leb, Bool, not, leb, ◌&&◌, ◌||◌, List, [], ◌∷◌, le_refl}
 use Rattle.std.proofs.Math.Decide.{dec_le}
 use Rattle.std.proofs.lemmas.Bool.{lt-leb}
 use Rattle.meaning.specs.Table.{kind_at, variant_at, end_at, siblings, children_at}
 use Rattle.meaning.specs.Refusals.{node_in, is_empty, is_extension, not_as_listed}
-use Rattle.children.specs.Shaped.{Nodes, Shaped, from}
+use Rattle.children.specs.Shaped.{Parent, from}
 use Rattle.children.specs.Walk.{done, fills}
 use Rattle.children.specs.States.{state_of, Goes}
 use Rattle.children.proofs.Walk.{fills_more, fills_end}
@@ -80,13 +74,10 @@ walk_end w e p c l h = sym (fills_end (node_in w) (state_of p)) ∙ rw (← from
 
 -- ---- one node
 
-pub fewer : {w : List ℕ} {n e : ℕ} → Nodes w n → e ≤ n → Nodes w e
-fewer s l = record { words = omega arith; few = omega arith; known = λ k h. s.known k (omega arith); onward = λ k h. s.onward k (omega arith) }
-
 -- whether the children are as listed, by whether the walk from the kind's own state fits
-pub listed : (w : List ℕ) (n i k e : ℕ) {f : Bool} → Shaped w n → i < n → k ≡ kind_at w i → e ≡ end_at w i
-    → f ≡ fills (node_in w) (state_of (k + 1)) (from w (i + 1) e) → not f || (is_extension k && leb e (i + 1)) ≡ not_as_listed w i
+pub listed : (w : List ℕ) (i k e p : ℕ) {f : Bool} → Parent w i k e → p ≡ k + 1
+    → f ≡ fills (node_in w) (state_of p) (from w (i + 1) e) → not f || (is_extension k && leb e (i + 1)) ≡ not_as_listed w i
 unfolding not_as_listed
-listed w n i k e s l ek ee ef =
-    let onward = (fewer s.nodes (s.within i l)).onward in
-    rw (ef, ek, ee, own_state (kind_at w i) (s.nodes.known i l), no_children w i onward, children_from w i onward)
+listed w i k e p s ep ef =
+    let onward : (j : ℕ) → j < end_at w i → j < end_at w j = λ j h. s.nodes.onward j (omega (arith, s.end_is)) in
+    rw (ef, ep, s.kind_is, s.end_is, own_state (kind_at w i) (s.nodes.known i s.before), no_children w i onward, children_from w i onward)

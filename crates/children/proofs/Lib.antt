@@ -4,4 +4,3 @@ pub mod Rules
 pub mod Table
 pub mod Family
 pub mod Reach
-pub mod Columns

@@ -1,13 +1,6 @@
 -- A Variable in a constant place: one number, the furthest end of a constant node passed, says it for every later node.
-use Prim.Native.Nat.{ℕ, ◌+◌, ◌≤◌, ◌<◌}
-use Rattle.std.proofs.Math.Path.{◌≡◌, refl, ◌∙◌}
-use Rattle.std.proofs.Common.{sym, not-suc-le-zero, lt-ltb, le-ltb}
-use Rattle.std.proofs.Math.Bool.{Bool, true, ◌&&◌}
-use Rattle.std.specs.Prelude.{false, List, ltb, eqb}
-use Rattle.std.proofs.Math.Nat.{le_trans, le_refl}
-use native.Mathlib.Omega.{arith}
+use Rattle.std.proofs.Common.{ℕ, ◌+◌, ◌≤◌, ◌<◌, ◌≡◌, refl, ◌∙◌, sym, not-suc-le-zero, lt-ltb, le-ltb, Bool, true, ◌&&◌, false, List, ltb, eqb, le_trans, le_refl, arith, below_more}
 use Rattle.std.proofs.Math.Decide.{dec_le}
-use borrow.Author.Count.{below_more}
 use Rattle.base.specs.Bools.{clash, and_false}
 use Rattle.meaning.specs.Kind
 use Rattle.meaning.specs.Table.{kind_at, end_at}

@@ -1,8 +1,6 @@
 -- The rule of the table of states: what a table says and what it has to say are computed for every state, kind and variant, and are the same.
-use Prim.Native.Nat.{ℕ, zero, suc, ◌+◌, ◌<◌}
-use Rattle.std.proofs.Math.Path.{◌≡◌, ◌∙◌, fun_ext}
-use Rattle.std.specs.Prelude.{refl, Bool, true, List, ltb, eqb}
-use Rattle.std.proofs.Common.{sym, ap, ltb-true}
+use Rattle.std.proofs.Common.{ℕ, zero, suc, ◌+◌, ◌<◌, ◌≡◌, ◌∙◌, refl, Bool, true, List, ltb, eqb, sym, ap, ltb-true}
+use Rattle.std.proofs.Math.Path.{fun_ext}
 use Rattle.std.proofs.Math.Dec.{eqb-suc-zero}
 use Rattle.meaning.specs.Kind
 use Rattle.meaning.specs.Children.{Class, a, definition, selection, type, value, named_type, is_in, row_of}

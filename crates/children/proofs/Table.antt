@@ -1,6 +1,5 @@
 -- The table of states is right: one computed test over all of its entries.
-use Rattle.std.specs.Prelude.{ℕ, refl}
-use mathlib.Core.List.{List, [], ◌∷◌}
+use Rattle.std.proofs.Common.{ℕ, refl, List, [], ◌∷◌}
 use Rattle.meaning.specs.Children.{is_in}
 use Rattle.children.specs.States.{state_of, column_of, Right}
 use Rattle.children.proofs.Rules.{right_table}

@@ -1,8 +1,5 @@
 -- The walk over children, a child at a time, agrees with `fill` over any slots and any test: each slot takes the same children in both.
-use Rattle.std.proofs.Math.Path.{◌≡◌, refl}
-use Rattle.std.specs.Prelude.{Bool, if◌then◌else◌}
-use Rattle.std.proofs.Math.Bool.{true, false, ◌&&◌}
-use mathlib.Core.List.{List, [], ◌∷◌}
+use Rattle.std.proofs.Common.{◌≡◌, refl, Bool, if◌then◌else◌, true, false, ◌&&◌, List, [], ◌∷◌}
 use Rattle.meaning.specs.Children.{Class, Slot, one, opt, any, some, fill, past}
 use Rattle.children.specs.Walk.{Left, stuck, left, advance, after, may_end, done, fills}
 

@@ -1,5 +1,5 @@
 -- What refusals 2 and 3 leave of a table; the children from a node on.
-use Rattle.std.specs.Prelude.{List, ℕ, ◌-◌, ◌*◌, ◌≤◌, ◌<◌, length}
+use Rattle.std.specs.Prelude.{◌≡◌, List, ℕ, ◌-◌, ◌*◌, ◌≤◌, ◌<◌, length}
 use Rattle.meaning.specs.Kind
 use Rattle.meaning.specs.Table.{words_per_node, kind_at, end_at, siblings}
 
@@ -14,6 +14,13 @@ pub record Nodes (w : List ℕ) (n : ℕ) : Type 0 where
 pub record Shaped (w : List ℕ) (n : ℕ) : Type 0 where
   pub nodes : Nodes w n
   pub within : (k : ℕ) → k < n → end_at w k ≤ n
+
+-- node i is of this kind and ends at e
+pub record Parent (w : List ℕ) (i kind e : ℕ) : Type 0 where
+  pub nodes : Nodes w e
+  pub before : i < e
+  pub kind_is : kind ≡ kind_at w i
+  pub end_is : e ≡ end_at w i
 
 -- of a node that ends at e, the children from node c on
 unfoldable pub from : List ℕ → ℕ → ℕ → List ℕ

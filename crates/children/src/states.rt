@@ -1,8 +1,140 @@
-pub type Table = [u8; 1200];
+// The states of the walk over a node's children, and where each child leads.
+ghost use Rattle.std.specs.Prelude.{◌≡◌, ◌+◌, ◌<◌};
+ghost use Rattle.meaning.specs.KindNumbers.{kind_number};
+ghost use Rattle.children.specs.States.{state_of, column_of, state_count, end_column, Goes, Right, Columned};
+ghost use Rattle.children.specs.Walk.{done};
 
-// A row of 20 for each state of the walk over children: the next state by the child's column, and at last 1 where the children may end.
-// In the state 0 no child fits any more; the state k + 1 is the kind k before its first child.
-pub const STATES: Table = *b"\
+use meaning::Kind;
+use table::{KINDS, by_kind};
+
+// Columns are numbers, since the rows below are read by them: an enum would be turned into its number at each use.
+const COLUMNS: usize = 20;
+
+const END_COLUMN: usize = 19;
+
+const PLAIN_TYPE_COLUMN: usize = 18;
+
+#[derive(Clone, Copy)]
+pub(crate) struct State {
+    pub number: u8,
+    pub ghost known: { number < state_count },
+}
+
+impl State {
+    // Before the first child of a node of this kind.
+    pub(crate) fn at_first(kind: Kind) -> Self
+        ensures { result.number ≡ kind_number kind + 1 }
+    {
+        State {
+            number: kind.number() as u8 + 1,
+        }
+    }
+}
+
+// The column of a node in the rows, if it is not a NamedType of variant 0.
+#[tactic(auto, unfolding(crate::specs::States::column_of))]
+fn column(kind: Kind) -> u8
+    ensures { result ≡ column_of (kind_number kind) 1 }
+{
+    match kind {
+        // no child
+        Kind::Document => 0,
+        // definitions and extensions
+        Kind::Operation
+        | Kind::Fragment
+        | Kind::DirectiveDefinition
+        | Kind::Schema
+        | Kind::Scalar
+        | Kind::Object
+        | Kind::Interface
+        | Kind::Union
+        | Kind::Enum
+        | Kind::InputObject
+        | Kind::ExtendSchema
+        | Kind::ExtendScalar
+        | Kind::ExtendObject
+        | Kind::ExtendInterface
+        | Kind::ExtendUnion
+        | Kind::ExtendEnum
+        | Kind::ExtendInputObject => 1,
+        Kind::Description => 2,
+        Kind::Directive => 3,
+        Kind::Argument => 4,
+        Kind::VariableDefinition => 5,
+        Kind::InputValueDefinition => 6,
+        Kind::FieldDefinition => 7,
+        Kind::EnumValueDefinition => 8,
+        Kind::RootOperation => 9,
+        Kind::InterfaceName => 10,
+        Kind::UnionMember => 11,
+        Kind::Location => 12,
+        // selections
+        Kind::Field | Kind::FragmentSpread | Kind::InlineFragment => 13,
+        Kind::Alias => 14,
+        // types
+        Kind::NamedType | Kind::ListType => 15,
+        // values
+        Kind::Null
+        | Kind::Boolean
+        | Kind::EnumValue
+        | Kind::String
+        | Kind::Variable
+        | Kind::Float
+        | Kind::Int
+        | Kind::List
+        | Kind::ObjectValue => 16,
+        Kind::ObjectField => 17,
+    }
+}
+
+#[derive(Drop)]
+pub(crate) struct States {
+    rows: [u8; 1200],
+    columns: [u8; KINDS],
+    ghost rows_right: { Right rows },
+    ghost columns_right: { Columned columns },
+}
+
+impl States {
+    pub(crate) fn new() -> Self {
+        States {
+            rows: ROWS,
+            columns: by_kind(column),
+        }
+    }
+
+    #[tactic(auto, unfolding(crate::specs::States::column_of))]
+    fn column(&self, kind: Kind, variant: usize) -> usize
+        ensures { (result ≡ column_of (kind_number kind) variant) × (result < end_column) }
+    {
+        if kind == Kind::NamedType && variant == 0 {
+            PLAIN_TYPE_COLUMN
+        } else {
+            usize::from(self.columns[kind.number()])
+        }
+    }
+
+    // The state after a child.
+    pub(crate) fn next(&self, state: State, kind: Kind, variant: usize) -> State
+        ensures { Goes state.number (kind_number kind) variant result.number }
+    {
+        let row = usize::from(state.number) * COLUMNS;
+        State {
+            number: self.rows[row + self.column(kind, variant)],
+        }
+    }
+
+    // Whether the children may end in this state.
+    pub(crate) fn may_end(&self, state: State) -> bool
+        ensures { result ≡ done (state_of state.number) }
+    {
+        self.rows[usize::from(state.number) * COLUMNS + END_COLUMN] == 1
+    }
+}
+
+// A row of 20 for each state: the next state by the child's column, and at last 1 where the children may end. In the state 0 no child fits
+// any more; the state k + 1 is the kind k before its first child.
+const ROWS: [u8; 1200] = *b"\
     \x00\x00\x00\x00\x00\x00\x00\x00\x00\x00\x00\x00\x00\x00\x00\x00\x00\x00\x00\x00\
     \x00\x01\x00\x00\x00\x00\x00\x00\x00\x00\x00\x00\x00\x00\x00\x00\x00\x00\x00\x01\
     \x00\x00\x00\x21\x00\x02\x00\x00\x00\x00\x00\x00\x00\x2e\x00\x00\x00\x00\x00\x00\

@@ -3,676 +3,407 @@
 
 ghost use Rattle.std.specs.Prelude.{◌≡◌, true, ◌&&◌, List, [], ◌∷◌, ◌++◌, ℕ, ◌+◌, ◌≤◌, ◌<◌};
 ghost use Rattle.meaning.specs.Ascii.{space};
-ghost use Rattle.meaning.specs.Table.{kind_at, tree_at};
+ghost use Rattle.meaning.specs.KindNumbers.{kind_number};
+ghost use Rattle.meaning.specs.Table.{nodes, kind_at, tree_at};
 ghost use Rattle.meaning.specs.Children.{a};
-ghost use Rattle.meaning.specs.Rules.{Part, separated, child, optional, rule_of};
+ghost use Rattle.meaning.specs.Rules.{Part, separated, child, optional, description, extend, scalar, object_like, union, enum, input_object, rule_of};
 ghost use Rattle.meaning.specs.Layout.{definition_text};
 ghost use Rattle.pen.specs.Wrote.{Wrote};
-ghost use Rattle.layout.specs.Written.{under, gap_text};
-ghost use Rattle.layout.specs.Jobs.{Job, Jobs, Within};
-ghost use Rattle.table.specs.Words.{InTable};
+ghost use Rattle.settings.specs.Said.{said};
+ghost use Rattle.layout.specs.Written.{gap_text, ChildrenOf};
+ghost use Rattle.layout.specs.Jobs.{Job, Jobs};
 ghost use Rattle.layout.specs.Did.{Did, all_plain, bytes};
+ghost use Rattle.layout.specs.Read.{words, pool};
 ghost use Rattle.serialize.specs.Parts.{Parts};
 ghost use Rattle.definitions.specs.Segments.{tail, object_tail, body, short_at};
 
-use layout::{Class, Gap, State, Walk};
-use meaning::NodeNumber;
+use layout::{Children, Class, Gap, Printer};
+use meaning::{Kind, NodeNumber};
 use pen::Pen;
-
-const OPERATION: usize = 1;
-
-const VARIABLE_DEFINITION: usize = 21;
-
-const INPUT_VALUE_DEFINITION: usize = 22;
-
-const FIELD_DEFINITION: usize = 23;
-
-const ENUM_VALUE_DEFINITION: usize = 24;
-
-const ROOT_OPERATION: usize = 25;
-
-const INTERFACE_NAME: usize = 26;
-
-const UNION_MEMBER: usize = 27;
-
-const LOCATION: usize = 28;
+use settings::Settings;
 
 // The next child, and those of the kind after it, each after the gap: `A & B`.
 fn listed(
-    words: &[u32],
-    pool: &[u8],
-    table: &[u8; 256],
-    kind: usize,
+    printer: &Printer,
+    kind: Kind,
     gap: Gap,
-    to: NodeNumber,
-    depth: usize,
-    prefix: &[u8],
-    state: State,
-    out: &mut [u8],
-    at: Walk,
-) -> Walk
-    requires { Jobs table.now words.now pool.now at.node.0 to.0 depth (state.level + 1) }
-    ensures { (n : ℕ) (sign : List ℕ) → gap_text gap (under state prefix.now) ≡ space ∷ (sign ++ space ∷ []) → Did words.now pool.now (under state prefix.now) n to.0 (child (a kind) ++ separated sign (a kind) ∷ []) out.old at out.new result }
+    children: &mut Children,
+    settings: &Settings,
+    pen: &mut Pen,
+)
+    requires { Jobs (words printer.now) (pool printer.now) children.old (settings.now.level + 1) }
+    ensures { (n : ℕ) (sign : List ℕ) → gap_text gap (said settings.now) ≡ space ∷ (sign ++ space ∷ []) → Did (words printer.now) (pool printer.now) (said settings.now) n (child (a (kind_number kind)) ++ separated sign (a (kind_number kind)) ∷ []) children.old pen.old children.new pen.new }
 {
-    let a = serialize::one(words, pool, table, to, depth, prefix, state, out, at);
-    serialize::each(
-        words,
-        pool,
-        table,
-        Class::Kind(kind),
-        gap,
-        to,
-        depth,
-        prefix,
-        state,
-        out,
-        a,
-    )
+    serialize::one(printer, children, settings, pen);
+    serialize::each(printer, Class::Kind(kind), gap, children, settings, pen);
 }
 
 // The same after a token, where there is a child of the kind: ` implements A & B`, ` = A | B`.
 fn listed_after(
-    words: &[u32],
-    pool: &[u8],
-    table: &[u8; 256],
+    printer: &Printer,
     before: &[u8],
-    kind: usize,
+    kind: Kind,
     gap: Gap,
-    to: NodeNumber,
-    depth: usize,
-    prefix: &[u8],
-    state: State,
-    out: &mut [u8],
-    at: Walk,
-) -> Walk
-    requires { Jobs table.now words.now pool.now at.node.0 to.0 depth (state.level + 1) }
-    ensures { (n : ℕ) (ps : List Part) (sign : List ℕ) → all_plain ps ≡ true → bytes ps ≡ before.now → gap_text gap (under state prefix.now) ≡ space ∷ (sign ++ space ∷ []) → Did words.now pool.now (under state prefix.now) n to.0 (optional (a kind) (ps ++ (child (a kind) ++ separated sign (a kind) ∷ []))) out.old at out.new result }
+    children: &mut Children,
+    settings: &Settings,
+    pen: &mut Pen,
+)
+    requires { Jobs (words printer.now) (pool printer.now) children.old (settings.now.level + 1) }
+    ensures { (n : ℕ) (ps : List Part) (sign : List ℕ) → all_plain ps ≡ true → bytes ps ≡ before.now → gap_text gap (said settings.now) ≡ space ∷ (sign ++ space ∷ []) → Did (words printer.now) (pool printer.now) (said settings.now) n (optional (a (kind_number kind)) (ps ++ (child (a (kind_number kind)) ++ separated sign (a (kind_number kind)) ∷ []))) children.old pen.old children.new pen.new }
 {
-    if layout::is_next(words, Class::Kind(kind), at.node, to) {
-        let a = layout::token(out, at, before);
-        return listed(
-            words, pool, table, kind, gap, to, depth, prefix, state, out, a,
-        );
+    if children.is_next(&printer.table, Class::Kind(kind)) {
+        pen.write(before);
+        listed(printer, kind, gap, children, settings, pen);
     }
-    at
 }
 
 // The directives and selections that an operation, a fragment and no other ends with.
-fn tail(
-    words: &[u32],
-    pool: &[u8],
-    table: &[u8; 256],
-    to: NodeNumber,
-    depth: usize,
-    prefix: &[u8],
-    state: State,
-    out: &mut [u8],
-    at: Walk,
-) -> Walk
-    requires { Jobs table.now words.now pool.now at.node.0 to.0 depth (state.level + 1) }
-    ensures { (n : ℕ) → Did words.now pool.now (under state prefix.now) n to.0 tail out.old at out.new result }
+fn tail(printer: &Printer, children: &mut Children, settings: &Settings, pen: &mut Pen)
+    requires { Jobs (words printer.now) (pool printer.now) children.old (settings.now.level + 1) }
+    ensures { (n : ℕ) → Did (words printer.now) (pool printer.now) (said settings.now) n tail children.old pen.old children.new pen.new }
 {
-    let a = serialize::directives(words, pool, table, to, depth, prefix, state, out, at);
-    let b = layout::token(out, a, b" ");
-    serialize::curly(
-        words,
-        pool,
-        table,
-        Class::Selection,
-        to,
-        depth,
-        prefix,
-        state,
-        out,
-        b,
-    )
+    serialize::directives(printer, children, settings, pen);
+    pen.write(b" ");
+    serialize::curly(printer, Class::Selection, children, settings, pen);
 }
 
 fn operation(
-    words: &[u32],
-    pool: &[u8],
-    table: &[u8; 256],
+    printer: &Printer,
     node: NodeNumber,
-    to: NodeNumber,
-    depth: usize,
-    prefix: &[u8],
-    state: State,
-    out: &mut [u8],
-    at: Walk,
-) -> Walk
-    requires { Parts table.now words.now pool.now node.0 at.node.0 to.0 depth state.level }
-    ensures { Did words.now pool.now (under state prefix.now) node.0 to.0 (rule_of 1) out.old at out.new result }
+    children: &mut Children,
+    settings: &Settings,
+    pen: &mut Pen,
+)
+    requires { Parts (words printer.now) (pool printer.now) node.0 children.old settings.now.level }
+    ensures { Did (words printer.now) (pool printer.now) (said settings.now) node.0 (rule_of 1) children.old pen.old children.new pen.new }
 {
-    let a = leaves::operation_type(words, node, out, at);
-    let b = leaves::if_named(words, pool, node, b" ", out, a);
-    let c = serialize::arguments(
-        words,
-        pool,
-        table,
-        VARIABLE_DEFINITION,
-        to,
-        depth,
-        prefix,
-        state,
-        out,
-        b,
-    );
-    tail(words, pool, table, to, depth, prefix, state, out, c)
+    leaves::operation_type(&printer.table, node, pen);
+    leaves::if_named(&printer.table, node, b" ", pen);
+    let class = Class::Kind(Kind::VariableDefinition);
+    serialize::arguments(printer, class, children, settings, pen);
+    tail(printer, children, settings, pen);
 }
 
 fn fragment(
-    words: &[u32],
-    pool: &[u8],
-    table: &[u8; 256],
+    printer: &Printer,
     node: NodeNumber,
-    to: NodeNumber,
-    depth: usize,
-    prefix: &[u8],
-    state: State,
-    out: &mut [u8],
-    at: Walk,
-) -> Walk
-    requires { Parts table.now words.now pool.now node.0 at.node.0 to.0 depth state.level }
-    ensures { Did words.now pool.now (under state prefix.now) node.0 to.0 (rule_of 2) out.old at out.new result }
+    children: &mut Children,
+    settings: &Settings,
+    pen: &mut Pen,
+)
+    requires { Parts (words printer.now) (pool printer.now) node.0 children.old settings.now.level }
+    ensures { Did (words printer.now) (pool printer.now) (said settings.now) node.0 (rule_of 2) children.old pen.old children.new pen.new }
 {
-    let a = layout::token(out, at, b"fragment ");
-    let b = layout::name(words, pool, node, out, a);
-    let c = layout::token(out, b, b" on ");
-    let d = serialize::one(words, pool, table, to, depth, prefix, state, out, c);
-    tail(words, pool, table, to, depth, prefix, state, out, d)
+    pen.write(b"fragment ");
+    layout::name(&printer.table, node, pen);
+    pen.write(b" on ");
+    serialize::one(printer, children, settings, pen);
+    tail(printer, children, settings, pen);
 }
 
 fn directive_definition(
-    words: &[u32],
-    pool: &[u8],
-    table: &[u8; 256],
+    printer: &Printer,
     node: NodeNumber,
-    to: NodeNumber,
-    depth: usize,
-    prefix: &[u8],
-    state: State,
-    out: &mut [u8],
-    at: Walk,
-) -> Walk
-    requires { Parts table.now words.now pool.now node.0 at.node.0 to.0 depth state.level }
-    ensures { Did words.now pool.now (under state prefix.now) node.0 to.0 (rule_of 3) out.old at out.new result }
+    children: &mut Children,
+    settings: &Settings,
+    pen: &mut Pen,
+)
+    requires { Parts (words printer.now) (pool printer.now) node.0 children.old settings.now.level }
+    ensures { Did (words printer.now) (pool printer.now) (said settings.now) node.0 (rule_of 3) children.old pen.old children.new pen.new }
 {
-    let a = leaves::serialize_description(words, pool, table, to, prefix, state, out, at);
-    let b = layout::token(out, a, b"directive @");
-    let c = layout::name(words, pool, node, out, b);
-    let d = serialize::arguments_def(words, pool, table, to, depth, prefix, state, out, c);
-    let e = leaves::if_one(words, node, b" repeatable", out, d);
-    let f = layout::token(out, e, b" on ");
-    listed(
-        words,
-        pool,
-        table,
-        LOCATION,
-        Gap::Bar,
-        to,
-        depth,
-        prefix,
-        state,
-        out,
-        f,
-    )
+    leaves::serialize_description(&printer.table, printer.classes, children, settings, pen);
+    pen.write(b"directive @");
+    layout::name(&printer.table, node, pen);
+    serialize::arguments_def(printer, children, settings, pen);
+    leaves::if_one(&printer.table, node, b" repeatable", pen);
+    pen.write(b" on ");
+    listed(printer, Kind::Location, Gap::Bar, children, settings, pen);
 }
 
 fn schema(
-    words: &[u32],
-    pool: &[u8],
-    table: &[u8; 256],
+    printer: &Printer,
     node: NodeNumber,
-    to: NodeNumber,
-    depth: usize,
-    prefix: &[u8],
-    state: State,
-    out: &mut [u8],
-    at: Walk,
-) -> Walk
-    requires { Parts table.now words.now pool.now node.0 at.node.0 to.0 depth state.level }
-    ensures { Did words.now pool.now (under state prefix.now) node.0 to.0 (rule_of 4) out.old at out.new result }
+    children: &mut Children,
+    settings: &Settings,
+    pen: &mut Pen,
+)
+    requires { Parts (words printer.now) (pool printer.now) node.0 children.old settings.now.level }
+    ensures { Did (words printer.now) (pool printer.now) (said settings.now) node.0 (rule_of 4) children.old pen.old children.new pen.new }
 {
-    let a = leaves::serialize_description(words, pool, table, to, prefix, state, out, at);
-    let b = layout::token(out, a, b"schema");
-    let c = serialize::directives(words, pool, table, to, depth, prefix, state, out, b);
-    let d = layout::token(out, c, b" ");
-    serialize::curly(
-        words,
-        pool,
-        table,
-        Class::Kind(ROOT_OPERATION),
-        to,
-        depth,
-        prefix,
-        state,
-        out,
-        d,
-    )
+    leaves::serialize_description(&printer.table, printer.classes, children, settings, pen);
+    pen.write(b"schema");
+    serialize::directives(printer, children, settings, pen);
+    pen.write(b" ");
+    let class = Class::Kind(Kind::RootOperation);
+    serialize::curly(printer, class, children, settings, pen);
 }
 
 fn schema_extension(
-    words: &[u32],
-    pool: &[u8],
-    table: &[u8; 256],
+    printer: &Printer,
     node: NodeNumber,
-    to: NodeNumber,
-    depth: usize,
-    prefix: &[u8],
-    state: State,
-    out: &mut [u8],
-    at: Walk,
-) -> Walk
-    requires { Parts table.now words.now pool.now node.0 at.node.0 to.0 depth state.level }
-    ensures { Did words.now pool.now (under state prefix.now) node.0 to.0 (rule_of 11) out.old at out.new result }
+    children: &mut Children,
+    settings: &Settings,
+    pen: &mut Pen,
+)
+    requires { Parts (words printer.now) (pool printer.now) node.0 children.old settings.now.level }
+    ensures { Did (words printer.now) (pool printer.now) (said settings.now) node.0 (rule_of 11) children.old pen.old children.new pen.new }
 {
-    let a = layout::token(out, at, b"extend schema");
-    let b = serialize::directives(words, pool, table, to, depth, prefix, state, out, a);
-    serialize::opt_braces(
-        words,
-        pool,
-        table,
-        Class::Kind(ROOT_OPERATION),
-        to,
-        depth,
-        prefix,
-        state,
-        out,
-        b,
-    )
+    pen.write(b"extend schema");
+    serialize::directives(printer, children, settings, pen);
+    let class = Class::Kind(Kind::RootOperation);
+    serialize::opt_braces(printer, class, children, settings, pen);
 }
 
 // `serialize_object_type_like` of serialize.rs: what follows `type ` and `interface `.
 fn object_type_like(
-    words: &[u32],
-    pool: &[u8],
-    table: &[u8; 256],
+    printer: &Printer,
     node: NodeNumber,
-    to: NodeNumber,
-    depth: usize,
-    prefix: &[u8],
-    state: State,
-    out: &mut [u8],
-    at: Walk,
-) -> Walk
-    requires { Parts table.now words.now pool.now node.0 at.node.0 to.0 depth state.level }
-    ensures { Did words.now pool.now (under state prefix.now) node.0 to.0 object_tail out.old at out.new result }
+    children: &mut Children,
+    settings: &Settings,
+    pen: &mut Pen,
+)
+    requires { Parts (words printer.now) (pool printer.now) node.0 children.old settings.now.level }
+    ensures { Did (words printer.now) (pool printer.now) (said settings.now) node.0 object_tail children.old pen.old children.new pen.new }
 {
-    let a = layout::name(words, pool, node, out, at);
-    let b = listed_after(
-        words,
-        pool,
-        table,
+    layout::name(&printer.table, node, pen);
+    listed_after(
+        printer,
         b" implements ",
-        INTERFACE_NAME,
+        Kind::InterfaceName,
         Gap::Ampersand,
-        to,
-        depth,
-        prefix,
-        state,
-        out,
-        a,
+        children,
+        settings,
+        pen,
     );
-    let c = serialize::directives(words, pool, table, to, depth, prefix, state, out, b);
-    serialize::opt_braces(
-        words,
-        pool,
-        table,
-        Class::Kind(FIELD_DEFINITION),
-        to,
-        depth,
-        prefix,
-        state,
-        out,
-        c,
-    )
+    serialize::directives(printer, children, settings, pen);
+    let class = Class::Kind(Kind::FieldDefinition);
+    serialize::opt_braces(printer, class, children, settings, pen);
 }
 
 fn union(
-    words: &[u32],
-    pool: &[u8],
-    table: &[u8; 256],
+    printer: &Printer,
     node: NodeNumber,
-    to: NodeNumber,
-    depth: usize,
-    prefix: &[u8],
-    state: State,
-    out: &mut [u8],
-    at: Walk,
-) -> Walk
-    requires { Parts table.now words.now pool.now node.0 at.node.0 to.0 depth state.level }
-    ensures { Did words.now pool.now (under state prefix.now) node.0 to.0 (body 8) out.old at out.new result }
+    children: &mut Children,
+    settings: &Settings,
+    pen: &mut Pen,
+)
+    requires { Parts (words printer.now) (pool printer.now) node.0 children.old settings.now.level }
+    ensures { Did (words printer.now) (pool printer.now) (said settings.now) node.0 union children.old pen.old children.new pen.new }
 {
-    let a = layout::token(out, at, b"union ");
-    let b = layout::name(words, pool, node, out, a);
-    let c = serialize::directives(words, pool, table, to, depth, prefix, state, out, b);
+    pen.write(b"union ");
+    layout::name(&printer.table, node, pen);
+    serialize::directives(printer, children, settings, pen);
     listed_after(
-        words,
-        pool,
-        table,
+        printer,
         b" = ",
-        UNION_MEMBER,
+        Kind::UnionMember,
         Gap::Bar,
-        to,
-        depth,
-        prefix,
-        state,
-        out,
-        c,
-    )
+        children,
+        settings,
+        pen,
+    );
 }
 
 fn scalar(
-    words: &[u32],
-    pool: &[u8],
-    table: &[u8; 256],
+    printer: &Printer,
     node: NodeNumber,
-    to: NodeNumber,
-    depth: usize,
-    prefix: &[u8],
-    state: State,
-    out: &mut [u8],
-    at: Walk,
-) -> Walk
-    requires { Parts table.now words.now pool.now node.0 at.node.0 to.0 depth state.level }
-    ensures { Did words.now pool.now (under state prefix.now) node.0 to.0 (body 5) out.old at out.new result }
+    children: &mut Children,
+    settings: &Settings,
+    pen: &mut Pen,
+)
+    requires { Parts (words printer.now) (pool printer.now) node.0 children.old settings.now.level }
+    ensures { Did (words printer.now) (pool printer.now) (said settings.now) node.0 scalar children.old pen.old children.new pen.new }
 {
-    let a = layout::token(out, at, b"scalar ");
-    let b = layout::name(words, pool, node, out, a);
-    serialize::directives(words, pool, table, to, depth, prefix, state, out, b)
+    pen.write(b"scalar ");
+    layout::name(&printer.table, node, pen);
+    serialize::directives(printer, children, settings, pen);
 }
 
 fn enumeration(
-    words: &[u32],
-    pool: &[u8],
-    table: &[u8; 256],
+    printer: &Printer,
     node: NodeNumber,
-    to: NodeNumber,
-    depth: usize,
-    prefix: &[u8],
-    state: State,
-    out: &mut [u8],
-    at: Walk,
-) -> Walk
-    requires { Parts table.now words.now pool.now node.0 at.node.0 to.0 depth state.level }
-    ensures { Did words.now pool.now (under state prefix.now) node.0 to.0 (body 9) out.old at out.new result }
+    children: &mut Children,
+    settings: &Settings,
+    pen: &mut Pen,
+)
+    requires { Parts (words printer.now) (pool printer.now) node.0 children.old settings.now.level }
+    ensures { Did (words printer.now) (pool printer.now) (said settings.now) node.0 enum children.old pen.old children.new pen.new }
 {
-    let a = layout::token(out, at, b"enum ");
-    let b = layout::name(words, pool, node, out, a);
-    let c = serialize::directives(words, pool, table, to, depth, prefix, state, out, b);
-    serialize::opt_braces(
-        words,
-        pool,
-        table,
-        Class::Kind(ENUM_VALUE_DEFINITION),
-        to,
-        depth,
-        prefix,
-        state,
-        out,
-        c,
-    )
+    pen.write(b"enum ");
+    layout::name(&printer.table, node, pen);
+    serialize::directives(printer, children, settings, pen);
+    let class = Class::Kind(Kind::EnumValueDefinition);
+    serialize::opt_braces(printer, class, children, settings, pen);
 }
 
 fn input_object(
-    words: &[u32],
-    pool: &[u8],
-    table: &[u8; 256],
+    printer: &Printer,
     node: NodeNumber,
-    to: NodeNumber,
-    depth: usize,
-    prefix: &[u8],
-    state: State,
-    out: &mut [u8],
-    at: Walk,
-) -> Walk
-    requires { Parts table.now words.now pool.now node.0 at.node.0 to.0 depth state.level }
-    ensures { Did words.now pool.now (under state prefix.now) node.0 to.0 (body 10) out.old at out.new result }
+    children: &mut Children,
+    settings: &Settings,
+    pen: &mut Pen,
+)
+    requires { Parts (words printer.now) (pool printer.now) node.0 children.old settings.now.level }
+    ensures { Did (words printer.now) (pool printer.now) (said settings.now) node.0 input_object children.old pen.old children.new pen.new }
 {
-    let a = layout::token(out, at, b"input ");
-    let b = layout::name(words, pool, node, out, a);
-    let c = serialize::directives(words, pool, table, to, depth, prefix, state, out, b);
-    serialize::opt_braces(
-        words,
-        pool,
-        table,
-        Class::Kind(INPUT_VALUE_DEFINITION),
-        to,
-        depth,
-        prefix,
-        state,
-        out,
-        c,
-    )
+    pen.write(b"input ");
+    layout::name(&printer.table, node, pen);
+    serialize::directives(printer, children, settings, pen);
+    let class = Class::Kind(Kind::InputValueDefinition);
+    serialize::opt_braces(printer, class, children, settings, pen);
 }
 
 fn object(
-    words: &[u32],
-    pool: &[u8],
-    table: &[u8; 256],
+    printer: &Printer,
     node: NodeNumber,
-    to: NodeNumber,
-    depth: usize,
-    prefix: &[u8],
-    state: State,
-    out: &mut [u8],
-    at: Walk,
-) -> Walk
-    requires { Parts table.now words.now pool.now node.0 at.node.0 to.0 depth state.level }
-    ensures { Did words.now pool.now (under state prefix.now) node.0 to.0 (body 6) out.old at out.new result }
+    children: &mut Children,
+    settings: &Settings,
+    pen: &mut Pen,
+)
+    requires { Parts (words printer.now) (pool printer.now) node.0 children.old settings.now.level }
+    ensures { Did (words printer.now) (pool printer.now) (said settings.now) node.0 (object_like "type") children.old pen.old children.new pen.new }
 {
-    let a = layout::token(out, at, b"type ");
-    object_type_like(words, pool, table, node, to, depth, prefix, state, out, a)
+    pen.write(b"type ");
+    object_type_like(printer, node, children, settings, pen);
 }
 
 fn interface(
-    words: &[u32],
-    pool: &[u8],
-    table: &[u8; 256],
+    printer: &Printer,
     node: NodeNumber,
-    to: NodeNumber,
-    depth: usize,
-    prefix: &[u8],
-    state: State,
-    out: &mut [u8],
-    at: Walk,
-) -> Walk
-    requires { Parts table.now words.now pool.now node.0 at.node.0 to.0 depth state.level }
-    ensures { Did words.now pool.now (under state prefix.now) node.0 to.0 (body 7) out.old at out.new result }
+    children: &mut Children,
+    settings: &Settings,
+    pen: &mut Pen,
+)
+    requires { Parts (words printer.now) (pool printer.now) node.0 children.old settings.now.level }
+    ensures { Did (words printer.now) (pool printer.now) (said settings.now) node.0 (object_like "interface") children.old pen.old children.new pen.new }
 {
-    let a = layout::token(out, at, b"interface ");
-    object_type_like(words, pool, table, node, to, depth, prefix, state, out, a)
+    pen.write(b"interface ");
+    object_type_like(printer, node, children, settings, pen);
 }
 
-// What the definition of a type and its extension share.
+// What the definition of a type and its extension share; nothing for other kinds.
 fn type_like(
-    words: &[u32],
-    pool: &[u8],
-    table: &[u8; 256],
-    kind: usize,
+    printer: &Printer,
+    kind: Kind,
     node: NodeNumber,
-    to: NodeNumber,
-    depth: usize,
-    prefix: &[u8],
-    state: State,
-    out: &mut [u8],
-    at: Walk,
-) -> Walk
-    requires { Parts table.now words.now pool.now node.0 at.node.0 to.0 depth state.level × (5 ≤ kind) × (kind ≤ 10) }
-    ensures { Did words.now pool.now (under state prefix.now) node.0 to.0 (body kind) out.old at out.new result }
+    children: &mut Children,
+    settings: &Settings,
+    pen: &mut Pen,
+)
+    requires { Parts (words printer.now) (pool printer.now) node.0 children.old settings.now.level }
+    ensures { Did (words printer.now) (pool printer.now) (said settings.now) node.0 (body kind) children.old pen.old children.new pen.new }
 {
     match kind {
-        5 => scalar(words, pool, table, node, to, depth, prefix, state, out, at),
-        6 => object(words, pool, table, node, to, depth, prefix, state, out, at),
-        7 => interface(words, pool, table, node, to, depth, prefix, state, out, at),
-        8 => union(words, pool, table, node, to, depth, prefix, state, out, at),
-        9 => enumeration(words, pool, table, node, to, depth, prefix, state, out, at),
-        _ => input_object(words, pool, table, node, to, depth, prefix, state, out, at),
+        Kind::Scalar | Kind::ExtendScalar => scalar(printer, node, children, settings, pen),
+        Kind::Object | Kind::ExtendObject => object(printer, node, children, settings, pen),
+        Kind::Interface | Kind::ExtendInterface => interface(
+            printer, node, children, settings, pen,
+        ),
+        Kind::Union | Kind::ExtendUnion => union(printer, node, children, settings, pen),
+        Kind::Enum | Kind::ExtendEnum => enumeration(printer, node, children, settings, pen),
+        Kind::InputObject | Kind::ExtendInputObject => input_object(
+            printer, node, children, settings, pen,
+        ),
+        _ => {}
     }
 }
 
 fn type_definition(
-    words: &[u32],
-    pool: &[u8],
-    table: &[u8; 256],
-    kind: usize,
+    printer: &Printer,
+    kind: Kind,
     node: NodeNumber,
-    to: NodeNumber,
-    depth: usize,
-    prefix: &[u8],
-    state: State,
-    out: &mut [u8],
-    at: Walk,
-) -> Walk
-    requires { Parts table.now words.now pool.now node.0 at.node.0 to.0 depth state.level × (5 ≤ kind) × (kind ≤ 10) }
-    ensures { Did words.now pool.now (under state prefix.now) node.0 to.0 (rule_of kind) out.old at out.new result }
+    children: &mut Children,
+    settings: &Settings,
+    pen: &mut Pen,
+)
+    requires { Parts (words printer.now) (pool printer.now) node.0 children.old settings.now.level }
+    ensures { Did (words printer.now) (pool printer.now) (said settings.now) node.0 (description ++ body kind) children.old pen.old children.new pen.new }
 {
-    let a = leaves::serialize_description(words, pool, table, to, prefix, state, out, at);
-    type_like(
-        words, pool, table, kind, node, to, depth, prefix, state, out, a,
-    )
+    leaves::serialize_description(&printer.table, printer.classes, children, settings, pen);
+    type_like(printer, kind, node, children, settings, pen);
 }
 
 fn type_extension(
-    words: &[u32],
-    pool: &[u8],
-    table: &[u8; 256],
-    kind: usize,
+    printer: &Printer,
+    kind: Kind,
     node: NodeNumber,
-    to: NodeNumber,
-    depth: usize,
-    prefix: &[u8],
-    state: State,
-    out: &mut [u8],
-    at: Walk,
-) -> Walk
-    requires { Parts table.now words.now pool.now node.0 at.node.0 to.0 depth state.level × (12 ≤ kind) × (kind ≤ 17) }
-    ensures { Did words.now pool.now (under state prefix.now) node.0 to.0 (rule_of kind) out.old at out.new result }
+    children: &mut Children,
+    settings: &Settings,
+    pen: &mut Pen,
+)
+    requires { Parts (words printer.now) (pool printer.now) node.0 children.old settings.now.level }
+    ensures { Did (words printer.now) (pool printer.now) (said settings.now) node.0 (extend ++ body kind) children.old pen.old children.new pen.new }
 {
-    let a = layout::token(out, at, b"extend ");
-    type_like(
-        words,
-        pool,
-        table,
-        kind - 7,
-        node,
-        to,
-        depth,
-        prefix,
-        state,
-        out,
-        a,
-    )
+    pen.write(b"extend ");
+    type_like(printer, kind, node, children, settings, pen);
 }
 
 fn serialize_kind(
-    words: &[u32],
-    pool: &[u8],
-    table: &[u8; 256],
-    kind: usize,
+    printer: &Printer,
+    kind: Kind,
     node: NodeNumber,
-    to: NodeNumber,
-    depth: usize,
-    prefix: &[u8],
-    state: State,
-    out: &mut [u8],
-    at: Walk,
-) -> Walk
-    requires { Parts table.now words.now pool.now node.0 at.node.0 to.0 depth state.level × (1 ≤ kind) × (kind ≤ 17) }
-    ensures { Did words.now pool.now (under state prefix.now) node.0 to.0 (rule_of kind) out.old at out.new result }
+    children: &mut Children,
+    settings: &Settings,
+    pen: &mut Pen,
+)
+    requires parts { Parts (words printer.now) (pool printer.now) node.0 children.old settings.now.level }
+    requires first { 1 ≤ kind_number kind }
+    requires last { kind_number kind ≤ 17 }
+    ensures { Did (words printer.now) (pool printer.now) (said settings.now) node.0 (rule_of (kind_number kind)) children.old pen.old children.new pen.new }
 {
     match kind {
-        1 => operation(words, pool, table, node, to, depth, prefix, state, out, at),
-        2 => fragment(words, pool, table, node, to, depth, prefix, state, out, at),
-        3 => directive_definition(words, pool, table, node, to, depth, prefix, state, out, at),
-        4 => schema(words, pool, table, node, to, depth, prefix, state, out, at),
-        5..=10 => type_definition(
-            words, pool, table, kind, node, to, depth, prefix, state, out, at,
-        ),
-        11 => schema_extension(words, pool, table, node, to, depth, prefix, state, out, at),
-        _ => type_extension(
-            words, pool, table, kind, node, to, depth, prefix, state, out, at,
-        ),
+        Kind::Operation => operation(printer, node, children, settings, pen),
+        Kind::Fragment => fragment(printer, node, children, settings, pen),
+        Kind::DirectiveDefinition => directive_definition(printer, node, children, settings, pen),
+        Kind::Schema => schema(printer, node, children, settings, pen),
+        Kind::ExtendSchema => schema_extension(printer, node, children, settings, pen),
+        Kind::Scalar
+        | Kind::Object
+        | Kind::Interface
+        | Kind::Union
+        | Kind::Enum
+        | Kind::InputObject => type_definition(printer, kind, node, children, settings, pen),
+        Kind::ExtendScalar
+        | Kind::ExtendObject
+        | Kind::ExtendInterface
+        | Kind::ExtendUnion
+        | Kind::ExtendEnum
+        | Kind::ExtendInputObject => type_extension(printer, kind, node, children, settings, pen),
+        // the others are no definitions
+        _ => unreachable!(),
     }
 }
 
 // A query with no name, variables or directives.
-fn is_short(words: &[u32], node: NodeNumber, to: NodeNumber) -> bool
-    requires { InTable words.now node.0 × Within words.now to.0 }
-    ensures { result ≡ short_at words.now node.0 to.0 }
+fn is_short(printer: &Printer, node: NodeNumber, children: &Children) -> bool
+    requires inside { node.0 < nodes (words printer.now) }
+    requires own { ChildrenOf (words printer.now) node.0 children.now }
+    ensures { result ≡ short_at (words printer.now) node.0 }
 {
-    if table::kind(words, node) != OPERATION {
-        return false;
-    }
-    if table::variant(words, node) != 0 {
-        return false;
-    }
-    if table::length(words, node) != 0 {
-        return false;
-    }
-    layout::is_next(words, Class::Selection, NodeNumber(node.0 + 1), to)
-}
-
-// Only the first definition is written so.
-fn is_shorthand(words: &[u32], first: bool, node: NodeNumber, to: NodeNumber) -> bool
-    requires { InTable words.now node.0 × Within words.now to.0 }
-    ensures { result ≡ (first && short_at words.now node.0 to.0) }
-{
-    if first {
-        return is_short(words, node, to);
-    }
-    false
+    let operation = printer.table.kind_number(node) as usize == Kind::Operation.number();
+    let query = printer.table.variant(node) == 0;
+    let unnamed = printer.table.length(node) == 0;
+    operation & (query & (unnamed & children.is_next(&printer.table, Class::Selection)))
 }
 
 // A definition; the first of a document may be shorthand.
 pub fn serialize_definition(
-    words: &[u32],
-    pool: &[u8],
-    table: &[u8; 256],
+    printer: &Printer,
     first: bool,
     node: NodeNumber,
-    depth: usize,
-    prefix: &[u8],
-    state: State,
-    out: &mut [u8],
-    pen: Pen,
-) -> Pen
-    requires { Job table.now words.now pool.now node.0 depth state.level × (1 ≤ kind_at words.now node.0) × (kind_at words.now node.0 ≤ 17) }
-    ensures { Wrote out.old pen (definition_text (under state prefix.now) first (tree_at words.now pool.now node.0)) out.new result }
+    settings: &Settings,
+    pen: &mut Pen,
+)
+    requires job { Job (words printer.now) (pool printer.now) node.0 settings.now.level }
+    requires low { 1 ≤ kind_at (words printer.now) node.0 }
+    requires high { kind_at (words printer.now) node.0 ≤ 17 }
+    ensures { Wrote pen.old (definition_text (said settings.now) first (tree_at (words printer.now) (pool printer.now) node.0)) pen.new }
 {
-    let to = NodeNumber(table::end(words, node));
-    let at = Walk {
-        node: NodeNumber(node.0 + 1),
-        pen: pen,
-    };
-    if is_shorthand(words, first, node, to) {
-        let r = serialize::curly(
-            words,
-            pool,
-            table,
-            Class::Selection,
-            to,
-            depth - 1,
-            prefix,
-            state,
-            out,
-            at,
-        );
-        return r.pen;
+    let mut children = Children::of(&printer.table, node);
+    if first && is_short(printer, node, &children) {
+        serialize::curly(printer, Class::Selection, &mut children, settings, pen);
+    } else {
+        let kind = printer.table.kind(node);
+        serialize_kind(printer, kind, node, &mut children, settings, pen);
     }
-    let kind = table::kind(words, node);
-    let r = serialize_kind(
-        words,
-        pool,
-        table,
-        kind,
-        node,
-        to,
-        depth - 1,
-        prefix,
-        state,
-        out,
-        at,
-    );
-    r.pen
 }

@@ -1,18 +1,7 @@
 -- The nodes above node i are those before it that end at i or later, less those that end at i; both numbers are kept from node to node.
-use Rattle.std.proofs.Math.Path.{◌≡◌, refl, ◌∙◌, ap}
-use Rattle.std.proofs.Common.{sym, not-suc-le-zero, add-one, if◌then◌else◌}
-use Rattle.std.proofs.Math.Logic.{⊎_elim}
-use Rattle.std.specs.Prelude.{Bool, true, false, List, ltb, length, set}
-use Rattle.std.proofs.Math.Bool.{◌&&◌}
-use Prim.Native.Nat.{ℕ, zero, suc, ◌+◌, ◌-◌, ◌≤◌, ◌<◌, zero-le}
-use Rattle.std.proofs.Math.Nat.{le_trans, le_refl, le_of_eq, eq-or-lt_of_le}
+use Rattle.std.proofs.Common.{◌≡◌, refl, ◌∙◌, ap, sym, not-suc-le-zero, add-one, if◌then◌else◌, ⊎_elim, Bool, true, false, List, ltb, length, set, ◌&&◌, ℕ, zero, suc, ◌+◌, ◌-◌, ◌≤◌, ◌<◌, zero-le, le_trans, le_refl, le_of_eq, eq-or-lt_of_le, arith, leb, eqb, get_or, length-set, get_or-set_same, get_or-set_other, lt-ltb, le-ltb, le-leb, eq-eqb, ne_eqb, eqb-true, below_more}
 use Rattle.std.proofs.Math.Decide.{dec_le}
-use native.Mathlib.Omega.{arith}
-use Rattle.std.proofs.Math.Dec.{leb, eqb}
-use Rattle.std.proofs.Math.ListN.{get_or, length-set}
-use Rattle.std.proofs.Math.Seq.{get_or-set_same, get_or-set_other}
-use borrow.Author.Tests.{lt-ltb, le-ltb, le-leb, lt-leb, eq-eqb, ne_eqb, eqb-true, eqb-false}
-use borrow.Author.Count.{below_more}
+use Rattle.std.proofs.lemmas.Bool.{lt-leb, eqb-false}
 use Rattle.meaning.specs.First.{first, count}
 use Rattle.meaning.specs.Table.{end_at}
 use Rattle.meaning.specs.Refusals.{is_above, depth_at, deepest, depth_fault}
@@ -79,9 +68,9 @@ pub record Scanned (w : List ℕ) (n size : ℕ) (closes : List ℕ) (depth i : 
   pub closed : (m : ℕ) → m ≤ n → get_or closes m 0 ≡ count (λ k. eqb m (end_at w k)) i
   pub shallow : (k : ℕ) → k < i → depth_fault w k ≡ false
 
-pub scan_begins : {w closes : List ℕ} {n : ℕ} → NoneClosed n closes → Scanned w n (length closes) closes 0 0
+pub scan_begins : {w closes : List ℕ} {n size : ℕ} → length closes ≡ size → NoneClosed n closes → Scanned w n size closes 0 0
 unfolding count
-scan_begins z = record { low = zero-le; same = refl; held = refl; closed = z.zeros; shallow = λ k l. absurd (not-suc-le-zero l) }
+scan_begins e z = record { low = zero-le; same = e; held = refl; closed = z.zeros; shallow = λ k l. absurd (not-suc-le-zero l) }
 
 module _ {w : List ℕ} {n size : ℕ} {closes : List ℕ} {depth i : ℕ} (p : Scanned w n size closes depth i) where
   pub depth_here : depth ≡ get_or closes i 0 + depth_at w i

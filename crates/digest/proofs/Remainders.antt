@@ -1,12 +1,7 @@
 -- The remainder of the digits so far may stand for them, since the digits to come only multiply and add.
-use Rattle.std.proofs.Math.Path.{◌≡◌, ◌∙◌}
-use Rattle.std.specs.Prelude.{refl, length, drop}
-use Rattle.std.proofs.Common.{sym, add-one, arith, drop-cons}
-use mathlib.Core.List.{List, [], ◌∷◌}
-use Prim.Native.Nat.{ℕ, ◌+◌, ◌*◌, ◌%◌, ◌/◌, ◌≤◌, ◌<◌}
+use Rattle.std.proofs.Common.{◌≡◌, ℕ, ◌+◌, ◌*◌, ◌%◌, ◌/◌, ◌≤◌, ◌<◌, ◌∙◌, List, [], ◌∷◌, sym, length, drop, get_or, add-one, arith, drop-cons, drop_of_length-le}
 use Rattle.std.proofs.Math.Nat.{mod-mod, mod-eq_of_lt, div-add-mod, add-mul-mod_self_left}
-use Rattle.std.proofs.Math.ListN.{get_or, drop_of_length-le}
-use Rattle.digest.specs.Digest.{modulus, number_from, digest}
+use Rattle.digest.specs.Digest.{modulus, number_from}
 
 one_digit : (n b : ℕ) → (256 * (n % modulus) + b) % modulus ≡ (256 * n + b) % modulus
 one_digit n b =
@@ -27,7 +22,3 @@ digit_more s i n b h e = alike (drop (i + 1) s) ((256 * n + b) % modulus) (256 *
 pub digits_end : (s : List ℕ) (i n : ℕ) → length s ≤ i → n < modulus → number_from n (drop i s) % modulus ≡ n
 unfolding number_from
 digits_end s i n h k = rw (drop_of_length-le s h) (mod-eq_of_lt k)
-
-pub digits_begin : (s : List ℕ) → number_from 1 (drop 0 s) % modulus ≡ digest s
-unfolding digest
-digits_begin s = refl

@@ -7,21 +7,13 @@ ghost use Rattle.digest.specs.Digest.{digest};
 // The prime 2^56 - 5: what is below it, times 256 and a byte more, has 64 bits.
 const MODULUS: u64 = 72_057_594_037_927_931;
 
-fn wide(b: u8) -> u64
-    ensures { result ≡ b }
-{
-    b as u64
-}
-
 // The bytes as the digits of a number in base 256 that begins with 1, modulo `MODULUS`.
 pub fn digest(text: &[u8]) -> u64
     ensures { result ≡ digest text.now }
 {
     let mut remainder = 1;
-    let mut i = 0;
-    while i < text.len() {
-        remainder = (256 * remainder + wide(text[i])) % MODULUS;
-        i += 1;
+    for b in text {
+        remainder = (256 * remainder + u64::from(*b)) % MODULUS;
     }
     remainder
 }

@@ -1,12 +1,9 @@
 -- What printing a document answers, by where it stops: what the check refuses, an output that is too short, or the text itself.
-use Rattle.std.specs.Prelude.{◌≡◌, Bool, eqb, length, if◌then◌else◌}
-use Rattle.std.proofs.Math.Path.{refl, ap}
-use Rattle.std.proofs.Common.{sym, ◌∙◌, inl, inr, arith}
-use Rattle.std.proofs.Math.Bool.{true, false}
-use mathlib.Core.List.{List, []}
-use Prim.Native.Nat.{ℕ, ◌≤◌, ◌<◌}
+use Rattle.std.specs.Prelude.{◌≡◌, Bool, true, false, List, [], ℕ, ◌≤◌, ◌<◌, eqb, length, if◌then◌else◌}
+use Rattle.std.specs.Borrow.{MutBor}
+use Rattle.std.proofs.Common.{refl, sym, ap, ◌∙◌, inl, inr, arith}
 use Rattle.base.specs.Bools.{clash}
-use Rattle.meaning.specs.Settings.{Settings, settings, document_levels, settings_fault}
+use Rattle.meaning.specs.Settings.{Settings, document_levels, settings_fault}
 use Rattle.meaning.specs.Table.{tree_of}
 use Rattle.meaning.specs.Refusals.{Verdict, accepted, refusal, verdict, has_fault, Accepted, Right}
 use Rattle.meaning.specs.Layout.{document_text}
@@ -17,11 +14,9 @@ use Rattle.table_laws.specs.Exactly.{verdict_is_right}
 use Rattle.demand.specs.Three.{written_fits, written_short}
 use Rattle.demand.specs.OneAnswer.{refused_is_not_0}
 use Rattle.pen.specs.declared.Pen.{Pen}
-use Rattle.pen.specs.Wrote.{AtStart, Wrote, wrote_front, wrote_nowhere}
+use Rattle.pen.specs.Wrote.{Over, Wrote, wrote_front, wrote_nowhere}
 use Rattle.settings.specs.Faults.{small_settings}
 use Rattle.text_bound.specs.Document.{document_fits}
-use Rattle.quoted.specs.Classes.{classes}
-use Rattle.document.specs.Top.{Top}
 
 module _ (s : Settings) (w p : List ℕ) where
   -- the check's refusal is the printer's
@@ -70,20 +65,20 @@ module _ (s : Settings) (w p : List ℕ) where
     unfolding printed_document
     printed_is_written out = rw (settings_fine_lem, is_accepted)
 
-    -- measured, it does not fit, or is written
-    module _ {q : Pen} {d : List ℕ} {r : Pen} (a : AtStart q) (m : Wrote [] q (document_text s (tree_of w p)) d r) where
-      measured : r.at.0 ≡ length (document_text s (tree_of w p))
-      measured = (wrote_nowhere a m (omega (arith, document_fits s settings_fine_lem all_fine))).0
+    pub small_level : s.level ≤ 64
+    small_level = (small_settings document_levels s.breaks s.prefix s.level settings_fine_lem).1
 
-      pub refuses_room : (out : List ℕ) → length out < r.at.0 → (answer 8 0 r.at.0, out) ≡ printed_document s w p out
+    -- measured, it does not fit, or is written
+    module _ {m : MutBor (List ℕ)} {q r : Pen} (a : Over m q) (n : m.now ≡ []) (x : Wrote q (document_text s (tree_of w p)) r) where
+      measured : r.at ≡ length (document_text s (tree_of w p))
+      measured = (wrote_nowhere a n x (omega (arith, document_fits s settings_fine_lem all_fine))).0
+
+      pub refuses_room : (out : List ℕ) → length out < r.at → (answer 8 0 r.at, out) ≡ printed_document s w p out
       refuses_room out h = rw measured (sym (printed_is_written out ∙ written_short (document_text s (tree_of w p)) out (omega (arith, measured, h))))
 
-      pub prints : {q' : Pen} {out out' : List ℕ} {r' : Pen} → r.at.0 ≤ length out → AtStart q' → Wrote out q' (document_text s (tree_of w p)) out' r'
-          → (answer 0 0 r'.at.0, out') ≡ printed_document s w p out
-      prints {out = out} h b x =
-          let k : length (document_text s (tree_of w p)) ≤ length out = omega (arith, measured, h) in
-          let f = wrote_front b x k in
-          rw (f.0, f.1) (sym (printed_is_written out ∙ written_fits (document_text s (tree_of w p)) out k))
-
-pub top_of : {t w p : List ℕ} (b : Bool) (prefix : List ℕ) (l : ℕ) → answer 0 0 0 ≡ checked_document (settings b prefix l) w p → t ≡ classes → Top t w p l
-top_of b prefix l e z = record { accepted = all_fine (settings b prefix l) _ _ e; level = (small_settings _ b prefix l (settings_fine_lem (settings b prefix l) _ _ e)).1; table = z }
+      pub prints : {out : MutBor (List ℕ)} {q' r' : Pen} → r.at ≤ length out.now → Over out q'
+          → Wrote q' (document_text s (tree_of w p)) r' → {d : List ℕ} → d ≡ r'.out.now → (answer 0 0 r'.at, d) ≡ printed_document s w p out.now
+      prints {out} h o y e =
+          let k : length (document_text s (tree_of w p)) ≤ length out.now = omega (arith, measured, h) in
+          let f = wrote_front o y k in
+          rw (e, f.0, f.1) (sym (printed_is_written out.now ∙ written_fits (document_text s (tree_of w p)) out.now k))

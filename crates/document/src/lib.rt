@@ -2,131 +2,95 @@
 #![tactic(auto)]
 
 ghost use Rattle.std.specs.Prelude.{◌≡◌, ◌≤◌, ◌<◌};
-ghost use Rattle.meaning.specs.Settings.{settings};
 ghost use Rattle.meaning.specs.Table.{tree_of, forest};
 ghost use Rattle.meaning.specs.Layout.{apart, later_definitions, document_text};
 ghost use Rattle.meaning.specs.Answers.{printed_answer};
 ghost use Rattle.meaning.specs.Entries.{printed_document};
+ghost use Rattle.meaning.specs.Refusals.{Accepted};
 ghost use Rattle.pen.specs.Wrote.{Wrote};
-ghost use Rattle.layout.specs.Written.{under};
-ghost use Rattle.document.specs.Top.{Top, Tops, ending};
+ghost use Rattle.settings.specs.Said.{said};
+ghost use Rattle.layout.specs.Read.{words, pool};
+ghost use Rattle.document.specs.Top.{Tops, ending};
 
-use layout::State;
-use meaning::NodeNumber;
+use layout::{Children, Printer};
+use meaning::{NodeNumber, Offset, Refusal};
 use pen::Pen;
-
-// The Document, its definitions and the nodes below them: none is deeper.
-const MOST_DEPTH: usize = 65;
+use quoted::Classes;
+use settings::Settings;
+use table::Table;
 
 // Between two definitions: an empty line, or a space.
-fn apart(prefix: &[u8], state: State, out: &mut [u8], pen: Pen) -> Pen
-    ensures { Wrote out.old pen (apart (under state prefix.now)) out.new result }
+fn apart(settings: &Settings, pen: &mut Pen)
+    ensures { Wrote pen.old (apart (said settings.now)) pen.new }
 {
-    if state.breaks {
-        let p = pen::write(out, pen, b"\n\n");
-        return pen::write_times(out, p, prefix, state.level);
+    if settings.breaks {
+        pen.write_byte(b'\n');
+        settings.line_break(pen);
+    } else {
+        pen.write_byte(b' ');
     }
-    pen::write_byte(out, pen, b' ')
 }
 
-// The definitions from a node on, each after what stands between two.
+// The definitions that are left, each after what stands between two.
 fn later_definitions(
-    words: &[u32],
-    pool: &[u8],
-    table: &[u8; 256],
-    from: NodeNumber,
-    to: NodeNumber,
-    prefix: &[u8],
-    state: State,
-    out: &mut [u8],
-    pen: Pen,
-) -> Pen
-    requires { Tops table.now words.now pool.now from.0 to.0 state.level }
-    ensures { Wrote out.old pen (later_definitions (under state prefix.now) (forest words.now pool.now from.0 to.0)) out.new result }
+    printer: &Printer,
+    mut definitions: Children,
+    settings: &Settings,
+    pen: &mut Pen,
+)
+    requires accepted { Accepted (words printer.now) (pool printer.now) }
+    requires tops { Tops (words printer.now) (pool printer.now) definitions.next.0 definitions.end.0 }
+    requires level { settings.now.level ≤ 64 }
+    ensures { Wrote pen.old (later_definitions (said settings.now) (forest (words printer.now) (pool printer.now) definitions.next.0 definitions.end.0)) pen.new }
 {
-    let mut i = from;
-    let mut p = pen;
-    while i.0 < to.0 {
-        let q = apart(prefix, state, out, p);
-        p = definitions::serialize_definition(
-            words, pool, table, false, i, MOST_DEPTH, prefix, state, out, q,
-        );
-        i = NodeNumber(table::end(words, i));
+    // A `while`: it goes from child to child by their ends, and counts nothing.
+    while definitions.next.0 < definitions.end.0 {
+        apart(settings, pen);
+        definitions::serialize_definition(printer, false, definitions.next, settings, pen);
+        definitions.pass(&printer.table);
     }
-    p
 }
 
 // The line feed after the last definition.
-fn end_line(state: State, out: &mut [u8], pen: Pen) -> Pen
-    ensures { Wrote out.old pen (ending state.breaks) out.new result }
+fn end_line(settings: &Settings, pen: &mut Pen)
+    ensures { Wrote pen.old (ending settings.now.breaks) pen.new }
 {
-    if state.breaks {
-        return pen::write_byte(out, pen, b'\n');
+    if settings.breaks {
+        pen.write_byte(b'\n');
     }
-    pen
 }
 
-// `top_level` of serialize.rs: the definitions of a table that is accepted.
-fn top_level(
-    words: &[u32],
-    pool: &[u8],
-    table: &[u8; 256],
-    prefix: &[u8],
-    state: State,
-    out: &mut [u8],
-    pen: Pen,
-) -> Pen
-    requires { Top table.now words.now pool.now state.level }
-    ensures { Wrote out.old pen (document_text (under state prefix.now) (tree_of words.now pool.now)) out.new result }
+// `top_level` of serialize.rs.
+fn top_level(printer: &Printer, settings: &Settings, pen: &mut Pen)
+    requires accepted { Accepted (words printer.now) (pool printer.now) }
+    requires level { settings.now.level ≤ 64 }
+    ensures { Wrote pen.old (document_text (said settings.now) (tree_of (words printer.now) (pool printer.now))) pen.new }
 {
-    let to = NodeNumber(table::end(words, NodeNumber(0)));
-    let first = NodeNumber(1);
-    if to.0 <= 1 {
-        return pen;
+    let mut definitions = Children::of(&printer.table, NodeNumber(0));
+    if definitions.next.0 < definitions.end.0 {
+        definitions::serialize_definition(printer, true, definitions.next, settings, pen);
+        definitions.pass(&printer.table);
+        later_definitions(printer, definitions, settings, pen);
+        end_line(settings, pen);
     }
-    let p = definitions::serialize_definition(
-        words, pool, table, true, first, MOST_DEPTH, prefix, state, out, pen,
-    );
-    let second = NodeNumber(table::end(words, first));
-    let q = later_definitions(words, pool, table, second, to, prefix, state, out, p);
-    end_line(state, out, q)
 }
 
 // The document of a table under the settings, into `out`: its length, or why nothing was written.
-pub fn print_document(
-    breaks: bool,
-    prefix: &[u8],
-    level: usize,
-    words: &[u32],
-    pool: &[u8],
-    out: &mut [u8],
-) -> meaning::Printed
-    ensures { (printed_answer result, out.new) ≡ printed_document (settings breaks prefix.now level) words.now pool.now out.old }
+pub fn print_document(settings: &Settings, table: &Table, out: &mut [u8]) -> Result<Offset, Refusal>
+    ensures { (printed_answer result, out.new) ≡ printed_document (said settings.now) table.now.words.now table.now.pool.now out.old }
 {
-    let checked = check_table::check_document(breaks, prefix, level, words, pool);
-    if let meaning::Checked::Refused(why) = checked {
-        return meaning::Printed::Refused(why);
-    }
-    let table = quoted::classes();
-    let state = State {
-        breaks: breaks,
-        level: level,
+    check_table::check_document(settings, table)?;
+    let classes = Classes::new();
+    let printer = Printer {
+        table: *table,
+        classes: &classes,
     };
-    let mut nowhere: [u8; 0] = [0; 0];
-    let measured = top_level(
-        words,
-        pool,
-        &table,
-        prefix,
-        state,
-        &mut nowhere,
-        pen::start(),
-    );
-    let n = measured.at.0;
-    if out.len() < n {
-        return meaning::Printed::Refused(meaning::Refusal::Room(meaning::Offset(n)));
+    let mut measure = Pen::over(&mut []);
+    top_level(&printer, settings, &mut measure);
+    if out.len() < measure.at {
+        return Err(Refusal::Room(Offset(measure.at)));
     }
-    let end = top_level(words, pool, &table, prefix, state, out, pen::start());
-    let at = end.at;
-    meaning::Printed::Written(at)
+    let mut pen = Pen::over(out);
+    top_level(&printer, settings, &mut pen);
+    Ok(Offset(pen.at))
 }

@@ -1,7 +1,6 @@
 -- The yes-or-no numbers of the C interface: one that is neither 0 nor 1 is refused, and any other is the switch that it says.
 use Rattle.std.specs.Prelude.{◌≡◌, List, ℕ, ◌≤◌, ◌<◌, eqb}
-use Rattle.std.proofs.Math.Path.{refl}
-use borrow.Author.Tests.{lt-ltb, le-ltb}
+use Rattle.std.proofs.Common.{refl, lt-ltb, le-ltb}
 use Rattle.meaning.specs.Settings.{settings}
 use Rattle.meaning.specs.Answers.{answer}
 use Rattle.meaning.specs.Entries.{printed_literal, printed_literal_by_numbers, checked_document, checked_document_by_numbers, printed_document, printed_document_by_numbers}

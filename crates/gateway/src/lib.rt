@@ -1,10 +1,28 @@
 // What the C interface answers, in numbers and byte slices: the result is document 01's number, 0 for success. The static library
-// `gateway_c` exports these functions under their names.
+// `gateway_c` exports these functions under their names, with these parameters.
 #![tactic(auto)]
 
-ghost use Rattle.std.specs.Prelude.{◌≡◌};
+ghost use Rattle.std.specs.Prelude.{◌≡◌, eqb};
+ghost use Rattle.meaning.specs.Settings.{settings};
+ghost use Rattle.meaning.specs.Answers.{checked_answer};
 ghost use Rattle.meaning.specs.Entries.{printed_literal_by_numbers, read_literal, checked_table, checked_document_by_numbers, printed_document_by_numbers};
+ghost use Rattle.settings.specs.Said.{said};
 ghost use Rattle.gateway.specs.Numbers.{Told, ToldForm, ToldPlace, ToldWhole};
+
+use meaning::Refusal;
+use settings::Settings;
+use table::Table;
+
+// The settings that numbers say.
+fn settings_of<'a>(breaks: u32, prefix: &'a [u8], level: u64) -> Settings<'a>
+    ensures { said result ≡ settings (eqb breaks 1) prefix.entry.now level }
+{
+    Settings {
+        breaks: breaks == 1,
+        prefix,
+        level: level as usize,
+    }
+}
 
 pub fn dervisclo_print_literal(
     value: &[u8],
@@ -17,47 +35,61 @@ pub fn dervisclo_print_literal(
 ) -> u32
     ensures { Told (printed_literal_by_numbers breaks prefix.now level description value.now out.old) result length.new out.new }
 {
-    if 1 < breaks {
+    if 1 < breaks || 1 < description {
         *length = 0;
         return 1;
     }
-    if 1 < description {
-        *length = 0;
-        return 1;
+    let settings = settings_of(breaks, prefix, level);
+    match literal::print_literal(value, description == 1, &settings, out) {
+        Ok(n) => {
+            *length = n.0 as u64;
+            0
+        }
+        Err(why) => {
+            *length = numbers::needed(why);
+            numbers::number(why)
+        }
     }
-    let answer = literal::print_literal(
-        value,
-        description == 1,
-        breaks == 1,
-        prefix,
-        level as usize,
-        out,
-    );
-    *length = numbers::printed_length(answer);
-    numbers::printed_number(answer)
 }
 
 pub fn dervisclo_read_literal(text: &[u8], out: &mut [u8], length: &mut u64, form: &mut u32) -> u32
     ensures { ToldForm (read_literal text.now out.old) result length.new form.new out.new }
 {
-    let answer = reader::read_literal(text, out);
-    let meaning::Reading::Value(found, n) = answer else {
-        *length = numbers::reading_length(answer);
-        *form = 0;
-        return numbers::reading_number(answer);
-    };
-    *length = n.0 as u64;
-    *form = numbers::form_number(found);
-    0
+    match reader::read_literal(text, out) {
+        Ok((found, n)) => {
+            *length = n.0 as u64;
+            *form = numbers::form_number(found);
+            0
+        }
+        Err(why) => {
+            *length = numbers::needed(why);
+            *form = 0;
+            numbers::number(why)
+        }
+    }
+}
+
+// The number and the place of what is said of a table.
+fn tell(answer: Result<(), Refusal>, place: &mut u64) -> u32
+    ensures { ToldPlace (checked_answer answer) result place.new }
+{
+    match answer {
+        Ok(()) => {
+            *place = 0;
+            0
+        }
+        Err(why) => {
+            *place = numbers::place(why);
+            numbers::number(why)
+        }
+    }
 }
 
 // The lowest refusal of a table, and its place; 0 where it is accepted.
 pub fn dervisclo_check_table(words: &[u32], pool: &[u8], place: &mut u64) -> u32
     ensures { ToldPlace (checked_table words.now pool.now) result place.new }
 {
-    let answer = check_table::check_table(words, pool);
-    *place = numbers::checked_place(answer);
-    numbers::checked_number(answer)
+    tell(check_table::check_table(&Table { words, pool }), place)
 }
 
 // The same for a document that is to be printed under these settings.
@@ -75,9 +107,11 @@ pub fn dervisclo_check_document(
         *place = 0;
         return 1;
     }
-    let answer = check_table::check_document(breaks == 1, prefix, level as usize, words, pool);
-    *place = numbers::checked_place(answer);
-    numbers::checked_number(answer)
+    let settings = settings_of(breaks, prefix, level);
+    tell(
+        check_table::check_document(&settings, &Table { words, pool }),
+        place,
+    )
 }
 
 // A table's document under these settings: its length, or the lowest refusal with its place or the needed length.
@@ -98,8 +132,17 @@ pub fn dervisclo_print_document(
         *length = 0;
         return 1;
     }
-    let answer = document::print_document(breaks == 1, prefix, level as usize, words, pool, out);
-    *place = numbers::printed_place(answer);
-    *length = numbers::printed_length(answer);
-    numbers::printed_number(answer)
+    let settings = settings_of(breaks, prefix, level);
+    match document::print_document(&settings, &Table { words, pool }, out) {
+        Ok(n) => {
+            *place = 0;
+            *length = n.0 as u64;
+            0
+        }
+        Err(why) => {
+            *place = numbers::place(why);
+            *length = numbers::needed(why);
+            numbers::number(why)
+        }
+    }
 }

@@ -6,7 +6,8 @@ ghost use Rattle.std.specs.Io.KnownBytes.{Consumes, IsAtEnd};
 
 use std::io::{self, Read};
 
-// Reads until `buf` is full or nothing is left, and says how many bytes came.
+// Reads until `buf` is full or nothing is left, and says how many bytes came. The library's `read_exact` fails where less is left, and its
+// `read_to_end` takes a heap, so the reads are counted here.
 pub fn read_full<R: Read>(reader: &mut R, buf: &mut [u8]) -> io::Result<usize>
     ensures bound { IfOk result (λ n. n ≤ length buf.new) }
     ensures bytes { IfOk result (λ n. Consumes (R.remaining reader.old) (R.remaining reader.new) (take n buf.new)) }

@@ -1,11 +1,7 @@
 -- A printing function does a part of a rule, or some parts one after the other: it writes their text and leaves the walk at the child
 -- that they leave. Functions one after the other do their parts one after the other, and the parts of a kind's rule are its text.
-use Rattle.std.specs.Prelude.{◌≡◌, Bool, false, ◌&&◌, leb, eqb, length, get_or, if◌then◌else◌}
-use Rattle.std.proofs.Math.Path.{refl, sym, ap}
-use Rattle.std.proofs.Common.{subst, ◌∙◌, arith, length-append, leb-true, le-leb}
-use Rattle.std.proofs.Math.Bool.{true}
-use mathlib.Core.List.{List, [], ◌∷◌, ◌++◌, append-nil, append_assoc}
-use Prim.Native.Nat.{ℕ, zero, suc, ◌+◌, ◌≤◌}
+use Rattle.std.specs.Prelude.{◌≡◌, Bool, true, false, List, [], ◌∷◌, ◌++◌, ℕ, zero, suc, ◌≤◌, ◌&&◌, leb, eqb, length, get_or, if◌then◌else◌}
+use Rattle.std.proofs.Common.{refl, sym, ap, ◌∙◌, arith, length-append, append-nil, append_assoc, leb-true, le-leb}
 use Rattle.std.proofs.Math.Decide.{dec_lt}
 use Rattle.std.proofs.Math.ListN.{get_or-eq_default}
 use Rattle.base.specs.Bools.{clash, and_left, and_right, and_both}
@@ -13,15 +9,17 @@ use Rattle.meaning.specs.Ascii.{space as a_space}
 use Rattle.meaning.specs.Settings.{Settings, settings, new_line_or_space as line_or_space}
 use Rattle.meaning.specs.Literal.{literal as literal_text}
 use Rattle.meaning.specs.Tree.{Head}
-use Rattle.meaning.specs.Table.{kind_at, variant_at, end_at, text_at, head_at, tree_at}
+use Rattle.meaning.specs.Table.{kind_at, variant_at, text_at, head_at, forest, tree_at}
+use Rattle.tree_laws.specs.Height.{heights}
 use Rattle.meaning.specs.Children.{Class, starts}
 use Rattle.meaning.specs.Rules.{Part, tok, words, text, literal, space, new_line_or_space, one, spaced, separated, comma_separated, curly_brackets, if_next, if_text, if_variant, rule_of}
 use Rattle.meaning.specs.Layout.{Child, child_in, is_empty, part_text, part_rest, part_skip, said, node_text}
-use Rattle.pen.specs.Wrote.{Wrote, wrote_as, ◌⨾◌ as ◌then◌}
-use Rattle.layout.specs.declared.Walk.{Walk}
+use Rattle.pen.specs.Wrote.{Wrote, wrote_as, wrote_none, ◌⨾◌ as ◌then◌}
+use Rattle.pen.specs.declared.Pen.{Pen}
+use Rattle.layout.specs.declared.Children.{Children}
 use Rattle.layout.specs.Kids.{kids, kids_none, kids_more, next_is, next_none, next_some}
-use Rattle.layout.specs.Written.{Kept, kept_as}
-use Rattle.layout.specs.Jobs.{Ranged, Rest}
+use Rattle.layout.specs.Written.{ChildrenOf}
+use Rattle.layout.specs.Jobs.{Ranged, Rest, Jobs}
 
 -- ---- parts one after the other
 
@@ -135,35 +133,41 @@ closes_both (p ∷ ps) qs e f =
 
 -- ---- what a function does
 
--- lent d, it wrote t, and leaves the walk over the children before node e where they are rs
-pub record Walked (w p : List ℕ) (e : ℕ) (t : List ℕ) (rs : List Child) (d : List ℕ) (at : Walk) (d' : List ℕ) (r : Walk) : Type 0 where
-  pub wrote : Wrote d at.pen t d' r.pen
-  pub left : kids w p r.node.0 e ≡ rs
-  pub onward : {b : ℕ} → Rest w p at.node.0 e b → Rest w p r.node.0 e b
+-- it wrote t, and leaves the walk over the children where they are rs
+pub record Walked (w p : List ℕ) (t : List ℕ) (rs : List Child) (at : Children) (o : Pen) (r : Children) (q : Pen) : Type 0 where
+  pub wrote : Wrote o t q
+  pub left : kids w p r.next.0 r.end.0 ≡ rs
+  pub onward : {b : ℕ} → Rest w p at.next.0 at.end.0 b → Rest w p r.next.0 r.end.0 b
+  pub end : r.end.0 ≡ at.end.0
+  pub order : at.next.0 ≤ r.next.0
 
 -- it did the parts ps of the rule of node n
-pub record Did (w p : List ℕ) (s : Settings) (n e : ℕ) (ps : List Part) (d : List ℕ) (at : Walk) (d' : List ℕ) (r : Walk) : Type 0 where
+pub record Did (w p : List ℕ) (s : Settings) (n : ℕ) (ps : List Part) (at : Children) (o : Pen) (r : Children) (q : Pen) : Type 0 where
   pub closed : closes ps ≡ true
   pub walked :
-      Walked w p e (said s (head_at w p n) 0 ps (kids w p at.node.0 e)) (after (head_at w p n) 0 ps (kids w p at.node.0 e)) d at d' r
+      Walked w p (said s (head_at w p n) 0 ps (kids w p at.next.0 at.end.0)) (after (head_at w p n) 0 ps (kids w p at.next.0 at.end.0)) at o r q
 
-pub walked_as : {w p : List ℕ} {e : ℕ} {t t' : List ℕ} {rs rs' : List Child} {d : List ℕ} {at : Walk} {d' : List ℕ} {r : Walk}
-    → t ≡ t' → rs ≡ rs' → Walked w p e t rs d at d' r → Walked w p e t' rs' d at d' r
-walked_as a b x = record { wrote = wrote_as x.wrote a; left = x.left ∙ b; onward = x.onward }
+pub walked_as : {w p : List ℕ} {t t' : List ℕ} {rs rs' : List Child} {at : Children} {o : Pen} {r : Children} {q : Pen}
+    → t ≡ t' → rs ≡ rs' → Walked w p t rs at o r q → Walked w p t' rs' at o r q
+walked_as a b x = record { wrote = wrote_as x.wrote a; left = x.left ∙ b; onward = x.onward; end = x.end; order = x.order }
 
-pub kept_walked : {w p : List ℕ} {e : ℕ} {t : List ℕ} {d : List ℕ} {at : Walk} {d' : List ℕ} {r : Walk} → Kept d at t d' r
-    → Walked w p e t (kids w p at.node.0 e) d at d' r
-kept_walked {w} {p} {e} x = record {
-  wrote = x.wrote;
-  left = ap (λ (i : ℕ). kids w p i e) x.node;
-  onward = λ {b} q. subst (λ (i : ℕ). Rest w p i e b) (sym x.node) q;
-}
+pub wrote_walked : {w p : List ℕ} {t : List ℕ} {at : Children} {o q : Pen} → Wrote o t q → Walked w p t (kids w p at.next.0 at.end.0) at o at q
+wrote_walked x = record { wrote = x; left = refl; onward = λ {b} z. z; end = refl; order = omega arith }
+
+-- what is left of them stays to be printed
+pub jobs_walked : {w p : List ℕ} {l : ℕ} {t : List ℕ} {rs : List Child} {at : Children} {o : Pen} {r : Children} {q : Pen}
+    → Jobs w p at l → Walked w p t rs at o r q → Jobs w p r l
+jobs_walked {w} {p} {l} {at = at} j k =
+    let here : Rest w p at.next.0 at.end.0 (heights (forest w p at.next.0 at.end.0)) =
+    record { range = j.range; deep = omega arith; inner = j.inner } in
+    let z = k.onward here in
+    record { range = z.range; inner = z.inner; level = omega (arith, j.level, z.deep) }
 
 infixr 30 ◌⨾◌
-pub ◌⨾◌ : {w p : List ℕ} {s : Settings} {n e : ℕ} {ps qs : List Part} {d : List ℕ} {at : Walk} {d' : List ℕ} {q : Walk} {d'' : List ℕ} {r : Walk}
-    → Did w p s n e ps d at d' q → Did w p s n e qs d' q d'' r → Did w p s n e (ps ++ qs) d at d'' r
-◌⨾◌ {w} {p} {s} {n} {e} {ps} {qs} {d} {at} {d'} {q} x y =
-    let rs = kids w p at.node.0 e in
+pub ◌⨾◌ : {w p : List ℕ} {s : Settings} {n : ℕ} {ps qs : List Part} {at : Children} {o : Pen} {b : Children} {q : Pen} {r : Children} {u : Pen}
+    → Did w p s n ps at o b q → Did w p s n qs b q r u → Did w p s n (ps ++ qs) at o r u
+◌⨾◌ {w} {p} {s} {n} {ps} {qs} {at} x y =
+    let rs = kids w p at.next.0 at.end.0 in
     let h = head_at w p n in
     let l = x.walked.left in
     record {
@@ -173,6 +177,8 @@ pub ◌⨾◌ : {w p : List ℕ} {s : Settings} {n e : ℕ} {ps qs : List Part} 
             (ap (λ (k : List Child). said s h 0 ps rs ++ said s h 0 qs k) l ∙ sym (said_both h s 0 ps qs rs (omega arith) x.closed));
         left = y.walked.left ∙ ap (after h 0 qs) l ∙ sym (after_both h 0 ps qs rs (omega arith) x.closed);
         onward = λ {b} z. y.walked.onward (x.walked.onward z);
+        end = y.walked.end ∙ x.walked.end;
+        order = omega (arith, x.walked.order, y.walked.order);
       };
     }
 
@@ -281,105 +287,107 @@ starts_next {w} {p} {i} {e} j c =
       | no l ↦ let z : e ≤ i = omega arith in rw (kids_none w p z) (sym (next_none w c z))
     ]
 
-module _ {w p : List ℕ} {s : Settings} {n e : ℕ} {d : List ℕ} {at : Walk} {d' : List ℕ} {r : Walk} where
+module _ {w p : List ℕ} {s : Settings} {n : ℕ} {at : Children} {o q : Pen} where
   -- a part that leaves out none
-  pub did_part : (x : Part) → leaves_out x ≡ 0 → Walked w p e (part_text s (head_at w p n) x (kids w p at.node.0 e)) (part_rest x (kids w p at.node.0 e)) d at d' r
-      → Did w p s n e (x ∷ []) d at d' r
+  pub did_part : {r : Children} (x : Part) → leaves_out x ≡ 0
+      → Walked w p (part_text s (head_at w p n) x (kids w p at.next.0 at.end.0)) (part_rest x (kids w p at.next.0 at.end.0)) at o r q
+      → Did w p s n (x ∷ []) at o r q
   unfolding said after
   did_part x z k = record {
     closed = and_both (leb (leaves_out x) 0) true (le-leb (leaves_out x) 0 (omega (arith, z))) refl;
-    walked = walked_as (sym (append-nil (part_text s (head_at w p n) x (kids w p at.node.0 e)))) refl k;
+    walked = walked_as (sym (append-nil (part_text s (head_at w p n) x (kids w p at.next.0 at.end.0)))) refl k;
   }
 
-  pub did_tokens : (ps : List Part) → all_plain ps ≡ true → Kept d at (bytes ps) d' r → Did w p s n e ps d at d' r
+  pub did_tokens : (ps : List Part) → all_plain ps ≡ true → Wrote o (bytes ps) q → Did w p s n ps at o at q
   did_tokens ps z k =
       let h = head_at w p n in
-      let rs = kids w p at.node.0 e in
-      record { closed = plain_close ps z; walked = walked_as (plain_said s h rs ps z) (plain_after s h rs ps z) (kept_walked k) }
+      let rs = kids w p at.next.0 at.end.0 in
+      record { closed = plain_close ps z; walked = walked_as (plain_said s h rs ps z) (plain_after s h rs ps z) (wrote_walked k) }
 
-  pub did_name : Kept d at (text_at w p n) d' r → Did w p s n e (text ∷ []) d at d' r
+  pub did_name : Wrote o (text_at w p n) q → Did w p s n (text ∷ []) at o at q
   unfolding part_text part_rest head_at
-  did_name k = did_part text refl (kept_walked k)
+  did_name k = did_part text refl (wrote_walked k)
 
-  pub did_literal : (x : Bool) → Kept d at (literal_text s x (text_at w p n)) d' r → Did w p s n e (literal x ∷ []) d at d' r
+  pub did_literal : (x : Bool) → Wrote o (literal_text s x (text_at w p n)) q → Did w p s n (literal x ∷ []) at o at q
   unfolding part_text part_rest head_at
-  did_literal x k = did_part (literal x) refl (kept_walked k)
+  did_literal x k = did_part (literal x) refl (wrote_walked k)
 
-  pub did_words : (ts : List (List ℕ)) → Kept d at (get_or ts (variant_at w n) []) d' r → Did w p s n e (words ts ∷ []) d at d' r
+  pub did_words : (ts : List (List ℕ)) → Wrote o (get_or ts (variant_at w n) []) q → Did w p s n (words ts ∷ []) at o at q
   unfolding part_text part_rest head_at
-  did_words ts k = did_part (words ts) refl (kept_walked k)
+  did_words ts k = did_part (words ts) refl (wrote_walked k)
 
   -- the word that the variant chooses, or none
-  pub did_chosen : (ts : List (List ℕ)) {v : ℕ} → v ≡ variant_at w n → (k : ℕ) → v ≡ k → Kept d at (get_or ts k []) d' r
-      → Did w p s n e (words ts ∷ []) d at d' r
-  did_chosen ts z k y x = did_words ts (kept_as (ap (λ (v : ℕ). get_or ts v []) (sym y ∙ z)) x)
+  pub did_chosen : (ts : List (List ℕ)) {v : ℕ} → v ≡ variant_at w n → (k : ℕ) → v ≡ k → Wrote o (get_or ts k []) q
+      → Did w p s n (words ts ∷ []) at o at q
+  did_chosen ts z k y x = did_words ts (wrote_as x (ap (λ (v : ℕ). get_or ts v []) (sym y ∙ z)))
 
-  pub did_none_chosen : (ts : List (List ℕ)) {v : ℕ} → v ≡ variant_at w n → length ts ≤ v → Kept d at [] d' r
-      → Did w p s n e (words ts ∷ []) d at d' r
-  did_none_chosen ts z l x = did_words ts (kept_as (sym (get_or-eq_default ts [] l) ∙ ap (λ (v : ℕ). get_or ts v []) z) x)
-
-  pub did_line : Kept d at (line_or_space s) d' r → Did w p s n e (new_line_or_space ∷ []) d at d' r
+  pub did_line : Wrote o (line_or_space s) q → Did w p s n (new_line_or_space ∷ []) at o at q
   unfolding part_text part_rest
-  did_line k = did_part new_line_or_space refl (kept_walked k)
+  did_line k = did_part new_line_or_space refl (wrote_walked k)
+
+module _ {w p : List ℕ} {s : Settings} {n : ℕ} {at : Children} {o : Pen} where
+  pub did_none_chosen : (ts : List (List ℕ)) {v : ℕ} → v ≡ variant_at w n → length ts ≤ v → Did w p s n (words ts ∷ []) at o at o
+  did_none_chosen ts z l = did_words ts (wrote_as wrote_none (sym (get_or-eq_default ts [] l) ∙ ap (λ (v : ℕ). get_or ts v []) z))
 
   -- ---- parts that stand only where a child of the class is next, where the node has a text, or where its variant is 1
 
   skipped : (x : Part) (ps : List Part) → leaves_out x ≡ length ps → closes ps ≡ true
-      → (part_skip (head_at w p n) x (kids w p at.node.0 e) ≡ length ps)
-      × (part_text s (head_at w p n) x (kids w p at.node.0 e) ≡ [])
-      × (part_rest x (kids w p at.node.0 e) ≡ kids w p at.node.0 e)
-      → Kept d at [] d' r → Did w p s n e (x ∷ ps) d at d' r
+      → (part_skip (head_at w p n) x (kids w p at.next.0 at.end.0) ≡ length ps)
+      × (part_text s (head_at w p n) x (kids w p at.next.0 at.end.0) ≡ [])
+      × (part_rest x (kids w p at.next.0 at.end.0) ≡ kids w p at.next.0 at.end.0)
+      → Did w p s n (x ∷ ps) at o at o
   unfolding said after
-  skipped x ps z c q k =
+  skipped x ps z c q =
       let h = head_at w p n in
-      let rs = kids w p at.node.0 e in
+      let rs = kids w p at.next.0 at.end.0 in
       record {
         closed = front_closes x ps z c;
-        walked = walked_as (rw (q.0, q.1, q.2) (sym (said_none h s ps rs))) (rw (q.0, q.2) (sym (after_none h ps rs))) (kept_walked k);
+        walked = walked_as (rw (q.0, q.1, q.2) (sym (said_none h s ps rs))) (rw (q.0, q.2) (sym (after_none h ps rs))) (wrote_walked wrote_none);
       }
 
-  followed : (x : Part) (ps : List Part) → leaves_out x ≡ length ps
-      → (part_skip (head_at w p n) x (kids w p at.node.0 e) ≡ 0)
-      × (part_text s (head_at w p n) x (kids w p at.node.0 e) ≡ [])
-      × (part_rest x (kids w p at.node.0 e) ≡ kids w p at.node.0 e)
-      → Did w p s n e ps d at d' r → Did w p s n e (x ∷ ps) d at d' r
+  followed : {r : Children} {q : Pen} (x : Part) (ps : List Part) → leaves_out x ≡ length ps
+      → (part_skip (head_at w p n) x (kids w p at.next.0 at.end.0) ≡ 0)
+      × (part_text s (head_at w p n) x (kids w p at.next.0 at.end.0) ≡ [])
+      × (part_rest x (kids w p at.next.0 at.end.0) ≡ kids w p at.next.0 at.end.0)
+      → Did w p s n ps at o r q → Did w p s n (x ∷ ps) at o r q
   unfolding said after
   followed x ps z q k = record {
     closed = front_closes x ps z k.closed;
-    walked = walked_as (rw (q.0, q.1, q.2)) (rw (q.0, q.2)) k.walked;
+    walked = walked_as (rw (q.0, q.1, q.2) refl) (rw (q.0, q.2) refl) k.walked;
   }
 
-  module _ (ps : List Part) (j : Ranged w p at.node.0 e) (c : Class) where
-    pub no_child : closes ps ≡ true → next_is w c at.node.0 e ≡ false → Kept d at [] d' r → Did w p s n e (if_next c (length ps) ∷ ps) d at d' r
+  module _ (ps : List Part) (j : Ranged w p at.next.0 at.end.0) (c : Class) where
+    pub no_child : closes ps ≡ true → next_is w c at.next.0 at.end.0 ≡ false → Did w p s n (if_next c (length ps) ∷ ps) at o at o
     unfolding part_text part_rest part_skip
-    no_child k z = skipped (if_next c (length ps)) ps refl k (rw (starts_next j c, z), refl, refl)
+    no_child k z = skipped (if_next c (length ps)) ps refl k (rw (starts_next j c, z) refl, refl, refl)
 
-    pub a_child : next_is w c at.node.0 e ≡ true → Did w p s n e ps d at d' r → Did w p s n e (if_next c (length ps) ∷ ps) d at d' r
+    pub a_child : {r : Children} {q : Pen} → next_is w c at.next.0 at.end.0 ≡ true → Did w p s n ps at o r q
+        → Did w p s n (if_next c (length ps) ∷ ps) at o r q
     unfolding part_text part_rest part_skip
-    a_child z = followed (if_next c (length ps)) ps refl (rw (starts_next j c, z), refl, refl)
+    a_child z = followed (if_next c (length ps)) ps refl (rw (starts_next j c, z) refl, refl, refl)
 
   module _ (ps : List Part) where
-    pub no_text_lem : closes ps ≡ true → is_empty (text_at w p n) ≡ true → Kept d at [] d' r → Did w p s n e (if_text (length ps) ∷ ps) d at d' r
+    pub no_text_lem : closes ps ≡ true → is_empty (text_at w p n) ≡ true → Did w p s n (if_text (length ps) ∷ ps) at o at o
     unfolding part_text part_rest part_skip head_at
-    no_text_lem k z = skipped (if_text (length ps)) ps refl k (rw z, refl, refl)
+    no_text_lem k z = skipped (if_text (length ps)) ps refl k (rw z refl, refl, refl)
 
-    pub a_text : is_empty (text_at w p n) ≡ false → Did w p s n e ps d at d' r → Did w p s n e (if_text (length ps) ∷ ps) d at d' r
+    pub a_text : {r : Children} {q : Pen} → is_empty (text_at w p n) ≡ false → Did w p s n ps at o r q → Did w p s n (if_text (length ps) ∷ ps) at o r q
     unfolding part_text part_rest part_skip head_at
-    a_text z = followed (if_text (length ps)) ps refl (rw z, refl, refl)
+    a_text z = followed (if_text (length ps)) ps refl (rw z refl, refl, refl)
 
-    pub not_one : closes ps ≡ true → eqb (variant_at w n) 1 ≡ false → Kept d at [] d' r → Did w p s n e (if_variant (length ps) ∷ ps) d at d' r
+    pub not_one : closes ps ≡ true → eqb (variant_at w n) 1 ≡ false → Did w p s n (if_variant (length ps) ∷ ps) at o at o
     unfolding part_text part_rest part_skip head_at
-    not_one k z = skipped (if_variant (length ps)) ps refl k (rw z, refl, refl)
+    not_one k z = skipped (if_variant (length ps)) ps refl k (rw z refl, refl, refl)
 
-    pub is_one : eqb (variant_at w n) 1 ≡ true → Did w p s n e ps d at d' r → Did w p s n e (if_variant (length ps) ∷ ps) d at d' r
+    pub is_one : {r : Children} {q : Pen} → eqb (variant_at w n) 1 ≡ true → Did w p s n ps at o r q → Did w p s n (if_variant (length ps) ∷ ps) at o r q
     unfolding part_text part_rest part_skip head_at
-    is_one z = followed (if_variant (length ps)) ps refl (rw z, refl, refl)
+    is_one z = followed (if_variant (length ps)) ps refl (rw z refl, refl, refl)
 
 -- ---- a node
 
 -- the parts of its rule are done: its text is written
-pub node_written : {w p : List ℕ} {s : Settings} {n e : ℕ} {ps : List Part} {d : List ℕ} {at : Walk} {d' : List ℕ} {r : Walk}
-    → rule_of (kind_at w n) ≡ ps → e ≡ end_at w n → at.node.0 ≡ n + 1 → Did w p s n e ps d at d' r
-    → Wrote d at.pen (node_text (tree_at w p n) s) d' r.pen
+pub node_written : {w p : List ℕ} {s : Settings} {n : ℕ} {ps : List Part} {at : Children} {o : Pen} {r : Children} {q : Pen}
+    → rule_of (kind_at w n) ≡ ps → ChildrenOf w n at → Did w p s n ps at o r q
+    → Wrote o (node_text (tree_at w p n) s) q
 unfolding tree_at head_at node_text kids
-node_written {w} {p} {s} {n} a b c x = wrote_as x.walked.wrote (rw (a, b, c))
+node_written {w} {p} {s} {n} a c x = wrote_as x.walked.wrote (rw (a, c.next, c.end) refl)

@@ -6,3 +6,4 @@ pub mod Did
 pub mod Child
 pub mod Runs
 pub mod Marks
+pub mod Read

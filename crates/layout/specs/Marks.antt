@@ -1,5 +1,5 @@
 -- Whether an argument definition has a description or a directive, and whether one of several has: a turn and the end of each walk.
-use Rattle.std.specs.Prelude.{◌≡◌, Bool, true, false, ◌||◌, List, ℕ, ◌+◌, ◌≤◌, ◌<◌}
+use Rattle.std.specs.Prelude.{refl, ◌≡◌, Bool, true, false, ◌||◌, List, ℕ, ◌+◌, ◌≤◌, ◌<◌}
 use Rattle.std.proofs.Math.Path.{ap}
 use Rattle.std.proofs.Common.{sym, ◌∙◌, ne_eqb}
 use Rattle.meaning.specs.Table.{kind_at, end_at, head_at, forest, tree_at}
@@ -56,18 +56,18 @@ pub mark_later : {w p : List ℕ} {i e k : ℕ} (j : Ranged w p i e) → i < e �
     → mark_among w p k e ≡ mark_among w p i e
 mark_later {w} {p} {i} {e} {k} j h z at = rw (mark_more j.shaped j.range h, z, at)
 
-pub is_description : (k : ℕ) → k ≡ 18 → is_mark k ≡ true
-is_description k e = rw e
-
-pub is_directive : (k : ℕ) → (k ≡ 18 → ⊥) → k ≡ 19 → is_mark k ≡ true
-is_directive k n e = rw e
-
-pub is_neither : (k : ℕ) → (k ≡ 18 → ⊥) → (k ≡ 19 → ⊥) → is_mark k ≡ false
-is_neither k n m = rw (ne_eqb k 18 n, ne_eqb k 19 m)
-
 pub marked_here : {w p : List ℕ} {i e : ℕ} (j : Ranged w p i e) (c : Class) → next_is w c i e ≡ true → marked_at w p i ≡ true → true ≡ marked_run w p c i e
 marked_here j c z m = sym (marked_more j c z ∙ rw m)
 
 pub marked_later : {w p : List ℕ} {i e k : ℕ} (j : Ranged w p i e) (c : Class) → next_is w c i e ≡ true → marked_at w p i ≡ false
     → k ≡ end_at w i → marked_run w p c k e ≡ marked_run w p c i e
 marked_later j c z m at = rw (marked_more j c z, m, at)
+
+pub is_description : (k : ℕ) → k ≡ 18 → is_mark k ≡ true
+is_description k e = rw e refl
+
+pub is_directive : (k : ℕ) → (k ≡ 18 → ⊥) → k ≡ 19 → is_mark k ≡ true
+is_directive k n e = rw e refl
+
+pub is_neither : (k : ℕ) → (k ≡ 18 → ⊥) → (k ≡ 19 → ⊥) → is_mark k ≡ false
+is_neither k n m = rw (ne_eqb k 18 n, ne_eqb k 19 m) refl

@@ -1,8 +1,6 @@
 -- The parts of a rule that `leaves` does, by name, and how its functions do them.
-use Rattle.std.specs.Prelude.{◌≡◌, false, List, [], ◌∷◌, ◌++◌, ℕ, ◌<◌, length, take, drop}
-use Rattle.std.proofs.Math.Path.{refl}
-use Rattle.std.proofs.Common.{ap, arith, length-take, length-drop}
-use Rattle.std.proofs.Math.Bool.{true}
+use Rattle.std.specs.Prelude.{◌≡◌, true, false, List, [], ◌∷◌, ◌++◌, ℕ, ◌<◌, length, take, drop}
+use Rattle.std.proofs.Common.{refl, ap, arith, length-take, length-drop}
 use Rattle.meaning.specs.Kind
 use Rattle.meaning.specs.Settings.{Settings, new_line_or_space}
 use Rattle.meaning.specs.Literal.{literal}
@@ -11,8 +9,10 @@ use Rattle.meaning.specs.Children.{a}
 use Rattle.meaning.specs.Rules.{Part, optional, child, token, sp, one_of, description, new_line_or_space as a_line, rule_of}
 use Rattle.meaning.specs.Layout.{is_empty}
 use Rattle.table.specs.Words.{TextInPool}
-use Rattle.layout.specs.declared.Walk.{Walk}
-use Rattle.layout.specs.Written.{Kept, Past}
+use Rattle.pen.specs.declared.Pen.{Pen}
+use Rattle.pen.specs.Wrote.{Wrote}
+use Rattle.layout.specs.declared.Children.{Children}
+use Rattle.layout.specs.Written.{Past}
 use Rattle.layout.specs.Kids.{next_is}
 use Rattle.layout.specs.Jobs.{Ranged}
 use Rattle.layout.specs.Did.{Did, ◌⨾◌, did_tokens, did_line, a_child}
@@ -26,23 +26,23 @@ alias = optional (a Kind.alias) (child (a Kind.alias) ++ token ":" ++ sp)
 abbrev pub boolean : List Part
 boolean = one_of ("false" ∷ "true" ∷ [])
 
-module _ {w p : List ℕ} {s : Settings} {n e : ℕ} {d : List ℕ} {at : Walk} {d' : List ℕ} {q b : Walk} {d'' : List ℕ} {r : Walk}
-    (j : Ranged w p at.node.0 e) where
-  pub described : next_is w (a Kind.description) at.node.0 e ≡ true → Kept d at (literal s true (text_at w p at.node.0)) d' q → Past w q b
-      → Kept d' b (new_line_or_space s) d'' r → Did w p s n e description d at d'' r
+module _ {w p : List ℕ} {s : Settings} {n : ℕ} {at : Children} {o u : Pen} {r : Children} {q : Pen}
+    (j : Ranged w p at.next.0 at.end.0) where
+  pub described : next_is w (a Kind.description) at.next.0 at.end.0 ≡ true → Wrote o (literal s true (text_at w p at.next.0)) u → Past w at r
+      → Wrote u (new_line_or_space s) q → Did w p s n description at o r q
   unfolding rule_of
   described z x y l =
       a_child (child (a Kind.description) ++ a_line ∷ []) j (a Kind.description) z
-      (leaf_child Kind.description j z
-      (literal_is_text w p at.node.0 s true (ap rule_of (next_kind w Kind.description at.node.0 e z))) x y
+      (leaf_child Kind.description j.shaped j.range z
+      (literal_is_text w p at.next.0 s true (ap rule_of (next_kind w Kind.description at.next.0 at.end.0 z))) x y
       ⨾ did_line l)
 
-  pub aliased : next_is w (a Kind.alias) at.node.0 e ≡ true → Kept d at (text_at w p at.node.0) d' q → Past w q b
-      → Kept d' b (0x3A ∷ 0x20 ∷ []) d'' r → Did w p s n e alias d at d'' r
+  pub aliased : next_is w (a Kind.alias) at.next.0 at.end.0 ≡ true → Wrote o (text_at w p at.next.0) u → Past w at r
+      → Wrote u (0x3A ∷ 0x20 ∷ []) q → Did w p s n alias at o r q
   unfolding rule_of
   aliased z x y l =
       a_child (child (a Kind.alias) ++ token ":" ++ sp) j (a Kind.alias) z
-      (leaf_child Kind.alias j z (name_is_text w p at.node.0 s (ap rule_of (next_kind w Kind.alias at.node.0 e z))) x y
+      (leaf_child Kind.alias j.shaped j.range z (name_is_text w p at.next.0 s (ap rule_of (next_kind w Kind.alias at.next.0 at.end.0 z))) x y
       ⨾ did_tokens (token ":" ++ sp) refl l)
 
 -- ---- whether a node has a text

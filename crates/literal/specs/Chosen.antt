@@ -1,5 +1,5 @@
 -- The literal once its form is chosen, and whether it fits.
-use Rattle.std.specs.Prelude.{◌≡◌, refl, Bool, true, false, not, ◌&&◌, ◌||◌, List, ℕ, ◌+◌, ◌*◌, ◌≤◌, ◌<◌, leb, length, if◌then◌else◌}
+use Rattle.std.specs.Prelude.{◌≡◌, refl, Bool, true, false, not, ◌&&◌, ◌||◌, List, ℕ, ◌+◌, ◌*◌, ◌≤◌, ◌<◌, leb, length, Result, Ok, Err, if◌then◌else◌}
 use Rattle.std.proofs.Common.{arith, mul-le-mul, le-leb}
 use Rattle.std.proofs.lemmas.Bool.{lt-leb}
 use Rattle.base.specs.Bools.{clash, not_true, not_false}
@@ -13,15 +13,15 @@ use Rattle.literal_laws.specs.QuotedBound.{quoted_bound_lem}
 use Rattle.literal_laws.specs.BlockBound.{few_feeds, block_bound_lem}
 use Rattle.literal_laws.specs.Bounded.{length_of_times}
 use Rattle.pen.specs.Put.{last}
-use Rattle.literal.specs.declared.Fit.{Fit}
-use Rattle.literal.specs.declared.Fit.TheVariants.{Yes, Needs}
+use Rattle.meaning.specs.declared.Refusal.{Refusal}
+use Rattle.meaning.specs.declared.Refusal.TheVariants.{Room}
 
 unfoldable pub chosen : Bool → List ℕ → List ℕ → List ℕ
 chosen in_block ind v = if in_block then block_string ind v else quoted v
 
--- it fits into so many bytes, or needs more
-unfoldable pub fit_of : List ℕ → ℕ → Fit
-fit_of t room = if leb (length t) room then Yes else Needs (length t)
+-- it fits into so many bytes, or is refused with the room that it needs
+unfoldable pub fit_of : List ℕ → ℕ → Result Unit Refusal
+fit_of t room = if leb (length t) room then Ok tt else Err (Room record { 0 = length t })
 
 pub chosen_block : (b : Bool) (ind v : List ℕ) → b ≡ true → block_string ind v ≡ chosen b ind v
 unfolding chosen
@@ -37,11 +37,11 @@ pub chosen_is_literal : (b d : Bool) (p : List ℕ) (l : ℕ) (v : List ℕ) (c 
 unfolding chosen literal
 chosen_is_literal b d p l v c e = rw e
 
-pub fits_yes : (t : List ℕ) (room : ℕ) → length t ≤ room → Yes ≡ fit_of t room
+pub fits_yes : (t : List ℕ) (room : ℕ) → length t ≤ room → Ok tt ≡ fit_of t room
 unfolding fit_of
 fits_yes t room h = rw (le-leb (length t) room h)
 
-pub fits_needs : (t : List ℕ) (room n : ℕ) → n ≡ length t → room < n → Needs n ≡ fit_of t room
+pub fits_needs : (t : List ℕ) (room n : ℕ) → n ≡ length t → room < n → Err (Room record { 0 = n }) ≡ fit_of t room
 unfolding fit_of
 fits_needs t room n e h = rw (lt-leb (length t) room (omega arith), e)
 

@@ -1,17 +1,12 @@
 -- Document 01, "Refusal numbers": the number, place and length of each answer.
-use Rattle.std.specs.Prelude.{ℕ}
+use Rattle.std.specs.Prelude.{ℕ, Result, Ok, Err}
 use Rattle.std.proofs.Math.Option.{Option, none, some}
 use Rattle.meaning.specs.Reading.{Form as FormRead, quoted_form, block_form}
 use Rattle.meaning.specs.declared.Refusal.{Refusal}
 use Rattle.meaning.specs.declared.Refusal.TheVariants.{Settings, Size, Node, Nesting, Depth, Children, Text, Room, Literal}
-use Rattle.meaning.specs.declared.Checked.{Checked}
-use Rattle.meaning.specs.declared.Checked.TheVariants.{Accepted, Refused as NotAccepted}
-use Rattle.meaning.specs.declared.Printed.{Printed}
-use Rattle.meaning.specs.declared.Printed.TheVariants.{Written, Refused as NotWritten}
 use Rattle.meaning.specs.declared.Form.{Form}
 use Rattle.meaning.specs.declared.Form.TheVariants.{Quoted, Block}
-use Rattle.meaning.specs.declared.Reading.{Reading}
-use Rattle.meaning.specs.declared.Reading.TheVariants.{Value, Refused as NotRead}
+use Rattle.meaning.specs.declared.Offset.{Offset}
 
 -- number 0 is success; "Answer 8 reports the exact needed length, as u64; other refusals report 0. .. Success reports the length"
 pub record Answer : Type 0 where
@@ -33,19 +28,19 @@ refusal_answer (Text i) = answer 7 i.0 0
 refusal_answer (Room n) = answer 8 0 n.0
 refusal_answer Literal = answer 9 0 0
 
-abbrev pub checked_answer : Checked → Answer
-checked_answer Accepted = answer 0 0 0
-checked_answer (NotAccepted r) = refusal_answer r
+abbrev pub checked_answer : Result Unit Refusal → Answer
+checked_answer (Ok _) = answer 0 0 0
+checked_answer (Err r) = refusal_answer r
 
-abbrev pub printed_answer : Printed → Answer
-printed_answer (Written n) = answer 0 0 n.0
-printed_answer (NotWritten r) = refusal_answer r
+abbrev pub printed_answer : Result Offset Refusal → Answer
+printed_answer (Ok n) = answer 0 0 n.0
+printed_answer (Err r) = refusal_answer r
 
 abbrev pub form_read : Form → FormRead
 form_read Quoted = quoted_form
 form_read Block = block_form
 
 -- "The answer names the form."
-abbrev pub reading_answer : Reading → Answer × Option FormRead
-reading_answer (Value f n) = (answer 0 0 n.0, some (form_read f))
-reading_answer (NotRead r) = (refusal_answer r, none)
+abbrev pub reading_answer : Result (Form × Offset) Refusal → Answer × Option FormRead
+reading_answer (Ok (f, n)) = (answer 0 0 n.0, some (form_read f))
+reading_answer (Err r) = (refusal_answer r, none)

@@ -6,6 +6,7 @@ pub mod Block
 pub mod Literal
 pub mod Reading
 pub mod Kind
+pub mod KindNumbers
 pub mod Tree
 pub mod Table
 pub mod Children

@@ -1,16 +1,21 @@
-// The numbers and answers that every crate shares. What they mean is in specs/.
+// The numbers, kinds and answers that every crate shares. What they mean is in specs/.
 #![tactic(auto)]
 
+mod kind;
+
+pub use kind::{Kind, NoKind};
+
 // The number of a node of the table.
-#[derive(Clone, Copy)]
+#[derive(Clone, Copy, Debug, PartialEq, Eq)]
 pub struct NodeNumber(pub usize);
 
 // A place in a pool or an output, or a number of bytes there.
-#[derive(Clone, Copy)]
+#[derive(Clone, Copy, Debug, PartialEq, Eq)]
 pub struct Offset(pub usize);
 
-// Document 01's refusals, in the order of their numbers: with the place, or the needed length.
-#[derive(Clone, Copy)]
+// Document 01's refusals, in the order of their numbers: with the place, or the needed length. A check answers `Result<(), Refusal>`,
+// printing `Result<Offset, Refusal>`, with how many bytes it wrote, and reading `Result<(Form, Offset), Refusal>`.
+#[derive(Clone, Copy, Debug, PartialEq, Eq)]
 pub enum Refusal {
     Settings,
     Size,
@@ -23,29 +28,9 @@ pub enum Refusal {
     Literal,
 }
 
-// What is said of a table.
-#[derive(Clone, Copy)]
-pub enum Checked {
-    Accepted,
-    Refused(Refusal),
-}
-
-// What printing answers: how many bytes it wrote, or why it wrote none.
-#[derive(Clone, Copy)]
-pub enum Printed {
-    Written(Offset),
-    Refused(Refusal),
-}
-
-#[derive(Clone, Copy)]
+// The form of a literal that was read.
+#[derive(Clone, Copy, Debug, PartialEq, Eq)]
 pub enum Form {
     Quoted,
     Block,
-}
-
-// What reading a literal answers: its form and how many bytes its value has, or why none was written.
-#[derive(Clone, Copy)]
-pub enum Reading {
-    Value(Form, Offset),
-    Refused(Refusal),
 }

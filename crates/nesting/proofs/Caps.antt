@@ -1,14 +1,8 @@
 -- No node crosses the end of another where each ends within its cap: the cap of a node is at most the end of every node that is open there.
 -- A cap that is kept for a later place is that of a node that ends there, and a node which crosses that end is found at once.
-use Rattle.std.proofs.Math.Path.{◌≡◌, ◌∙◌}
-use Rattle.std.specs.Prelude.{refl, false, List, ltb, length, set}
-use Rattle.std.proofs.Common.{sym, ap, arith, length-set, lt-ltb, le-ltb}
-use Rattle.std.proofs.Math.Bool.{◌&&◌}
-use Prim.Native.Nat.{ℕ, ◌+◌, ◌≤◌, ◌<◌, max}
-use Rattle.std.proofs.Math.Nat.{max-le, le_trans}
+use Rattle.std.proofs.Common.{◌≡◌, ◌∙◌, refl, false, List, ltb, length, set, sym, ap, arith, length-set, lt-ltb, le-ltb, ◌&&◌, ℕ, ◌+◌, ◌≤◌, ◌<◌, max, le_trans, get_or, get_or-set_same, get_or-set_other}
+use Rattle.std.proofs.Math.Nat.{max-le}
 use Rattle.std.proofs.Math.Decide.{dec_le, dec_lt, ℕ_discrete}
-use Rattle.std.proofs.Math.ListN.{get_or}
-use Rattle.std.proofs.Math.Seq.{get_or-set_same, get_or-set_other}
 use Rattle.meaning.specs.Table.{end_at}
 use Rattle.meaning.specs.Refusals.{nesting_fault}
 use Rattle.table_laws.specs.First.{some_no}

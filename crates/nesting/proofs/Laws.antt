@@ -1,17 +1,6 @@
 -- A node has the fault exactly if the next node that ends later lies in its subtree. The links that lead there are kept from node to node.
-use Rattle.std.proofs.Math.Path.{◌≡◌, ◌∙◌}
-use Rattle.std.specs.Prelude.{refl, true, List, length, set}
-use Rattle.std.proofs.Common.{subst, length-set}
-use Rattle.std.proofs.Math.Logic.{⊎_elim}
-use Rattle.std.proofs.Math.Bool.{false, ◌&&◌}
-use Prim.Native.Nat.{ℕ, suc, ◌+◌, ◌≤◌, ◌<◌}
-use Rattle.std.proofs.Math.Nat.{le_refl, le_trans, lt_irrefl, eq-or-lt_of_le}
+use Rattle.std.proofs.Common.{◌≡◌, ◌∙◌, refl, true, List, length, set, subst, length-set, ⊎_elim, false, ◌&&◌, ℕ, suc, ◌+◌, ◌≤◌, ◌<◌, le_refl, le_trans, lt_irrefl, eq-or-lt_of_le, arith, ltb, get_or, get_or-set_same, get_or-set_other, lt-ltb, le-ltb}
 use Rattle.std.proofs.Math.Decide.{dec_le}
-use native.Mathlib.Omega.{arith}
-use Rattle.std.proofs.Math.Dec.{ltb}
-use Rattle.std.proofs.Math.ListN.{get_or}
-use Rattle.std.proofs.Math.Seq.{get_or-set_same, get_or-set_other}
-use borrow.Author.Tests.{lt-ltb, le-ltb}
 use Rattle.meaning.specs.Table.{end_at}
 use Rattle.meaning.specs.Refusals.{nesting_fault}
 use Rattle.table_laws.specs.First.{some_yes, some_no, FirstFrom, from_end, from_hit, from_miss}

@@ -1,4 +1,4 @@
--- What the tables of kinds say that are lent to the check of nodes.
+-- What the tables of kinds say.
 use Rattle.std.specs.Prelude.{◌≡◌, List, ℕ, ◌<◌, get_or, if◌then◌else◌}
 use Rattle.meaning.specs.Kind
 use Rattle.meaning.specs.Children.{row_of}

@@ -1,17 +1,18 @@
-// An answer as document 01's numbers: 0 for success; the place; the length.
+// An answer as document 01's numbers: of a refusal its number, its place and the needed length, of a reading its form. Functions and no
+// methods, since the types stand in `meaning`, which says nothing of the C interface.
 #![tactic(auto)]
 
 ghost use Rattle.std.specs.Prelude.{◌≡◌};
 ghost use Rattle.std.proofs.Math.Option.{some};
-ghost use Rattle.meaning.specs.Answers.{refusal_answer, checked_answer, printed_answer, reading_answer, form_read};
+ghost use Rattle.meaning.specs.Answers.{refusal_answer, form_read};
 ghost use Rattle.numbers.specs.Forms.{form_number};
 
-use meaning::{Checked, Form, NodeNumber, Printed, Reading, Refusal};
+use meaning::{Form, Refusal};
 
-pub fn number(r: Refusal) -> u32
-    ensures { result ≡ (refusal_answer r).number }
+pub fn number(refusal: Refusal) -> u32
+    ensures { result ≡ (refusal_answer refusal).number }
 {
-    match r {
+    match refusal {
         Refusal::Settings => 1,
         Refusal::Size => 2,
         Refusal::Node(_) => 3,
@@ -24,104 +25,25 @@ pub fn number(r: Refusal) -> u32
     }
 }
 
-fn node(i: NodeNumber) -> u64
-    ensures { result ≡ i.0 }
+pub fn place(refusal: Refusal) -> u64
+    ensures { result ≡ (refusal_answer refusal).place }
 {
-    i.0 as u64
-}
-
-pub fn place_of(r: Refusal) -> u64
-    ensures { result ≡ (refusal_answer r).place }
-{
-    match r {
-        Refusal::Settings => 0,
-        Refusal::Size => 0,
-        Refusal::Node(i) => node(i),
-        Refusal::Nesting(i) => node(i),
-        Refusal::Depth(i) => node(i),
-        Refusal::Children(i) => node(i),
-        Refusal::Text(i) => node(i),
-        Refusal::Room(_) => 0,
-        Refusal::Literal => 0,
+    match refusal {
+        Refusal::Node(i)
+        | Refusal::Nesting(i)
+        | Refusal::Depth(i)
+        | Refusal::Children(i)
+        | Refusal::Text(i) => i.0 as u64,
+        _ => 0,
     }
 }
 
-pub fn needed(r: Refusal) -> u64
-    ensures { result ≡ (refusal_answer r).length }
+pub fn needed(refusal: Refusal) -> u64
+    ensures { result ≡ (refusal_answer refusal).length }
 {
-    match r {
-        Refusal::Settings => 0,
-        Refusal::Size => 0,
-        Refusal::Node(_) => 0,
-        Refusal::Nesting(_) => 0,
-        Refusal::Depth(_) => 0,
-        Refusal::Children(_) => 0,
-        Refusal::Text(_) => 0,
+    match refusal {
         Refusal::Room(n) => n.0 as u64,
-        Refusal::Literal => 0,
-    }
-}
-
-pub fn checked_number(c: Checked) -> u32
-    ensures { result ≡ (checked_answer c).number }
-{
-    let Checked::Refused(why) = c else {
-        return 0;
-    };
-    number(why)
-}
-
-pub fn checked_place(c: Checked) -> u64
-    ensures { result ≡ (checked_answer c).place }
-{
-    let Checked::Refused(why) = c else {
-        return 0;
-    };
-    place_of(why)
-}
-
-pub fn printed_number(p: Printed) -> u32
-    ensures { result ≡ (printed_answer p).number }
-{
-    let Printed::Refused(r) = p else {
-        return 0;
-    };
-    number(r)
-}
-
-pub fn printed_place(p: Printed) -> u64
-    ensures { result ≡ (printed_answer p).place }
-{
-    let Printed::Refused(r) = p else {
-        return 0;
-    };
-    place_of(r)
-}
-
-pub fn printed_length(p: Printed) -> u64
-    ensures { result ≡ (printed_answer p).length }
-{
-    match p {
-        Printed::Written(n) => n.0 as u64,
-        Printed::Refused(r) => needed(r),
-    }
-}
-
-pub fn reading_number(r: Reading) -> u32
-    ensures { result ≡ (reading_answer r).0.number }
-{
-    let Reading::Refused(why) = r else {
-        return 0;
-    };
-    number(why)
-}
-
-pub fn reading_length(r: Reading) -> u64
-    ensures { result ≡ (reading_answer r).0.length }
-{
-    match r {
-        Reading::Value(_, n) => n.0 as u64,
-        Reading::Refused(why) => needed(why),
+        _ => 0,
     }
 }
 

@@ -1,14 +1,22 @@
 -- The same of what the checker's stages and the readers of vectors are made of.
-use Rattle.std.specs.Prelude.{ℕ, ◌≡◌, List, length}
+use Rattle.std.specs.Prelude.{ℕ, ◌≡◌, refl, ◌<◌, List, length, Option, Some, None, IfSome}
 use Rattle.std.proofs.Common.{ap, arith, length-drop}
 use Rattle.meaning.specs.declared.NodeNumber.{NodeNumber}
+use Rattle.table.specs.First.{found_or}
 use Rattle.table.specs.Words.{Small}
 use Rattle.vector_lines.specs.Parts.{Past}
 use Rattle.one_answer.specs.Entries.{one_value}
 
--- `first_node_fault` and the other stages
+-- the number of a node
 pub one_place : {i : ℕ} {r s : NodeNumber} → r.0 ≡ i → s.0 ≡ i → r ≡ s
 one_place e f = ap (λ (i : ℕ). record { 0 = i }) (one_value e f)
+
+-- `first_node_fault` and the other stages
+pub one_found : (n : ℕ) {i : ℕ} (r s : Option NodeNumber) → found_or n r ≡ i → IfSome r (λ k. k.0 < n) → found_or n s ≡ i → IfSome s (λ k. k.0 < n) → r ≡ s
+one_found n None None e _ f _ = refl
+one_found n None (Some k) e _ f l = absurd (omega arith)
+one_found n (Some k) None e l f _ = absurd (omega arith)
+one_found n (Some k) (Some j) e _ f _ = ap Some (one_place e f)
 
 -- `table::kind` and the other words
 pub one_word : {r s word : ℕ} → Small r word → Small s word → r ≡ s

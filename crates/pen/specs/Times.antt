@@ -1,12 +1,11 @@
--- A text so many times: a turn of a loop that counts down, and its end.
-use Rattle.std.specs.Prelude.{◌≡◌, refl, List, [], ◌++◌, ℕ, zero, suc, ◌-◌, ◌≤◌, ◌<◌}
-use Rattle.std.proofs.Common.{not-suc-le-zero, arith}
+-- A text so many times: a turn of a loop over it, and its end.
+use Rattle.std.specs.Prelude.{◌≡◌, refl, List, [], ◌++◌, ℕ, suc, ◌+◌, ◌≤◌}
+use Rattle.std.proofs.Common.{arith}
 use Rattle.meaning.specs.Settings.{times}
 
-pub times_one : (n : ℕ) (t : List ℕ) → 0 < n → times n t ≡ t ++ times (n - 1) t
+pub times_one : (n k : ℕ) (t : List ℕ) → n ≡ k + 1 → times n t ≡ t ++ times k t
 unfolding times
-times_one zero t h = absurd (not-suc-le-zero h)
-times_one (suc n) t h = let e : suc n - 1 ≡ n = omega arith in rw e
+times_one n k t h = let e : n ≡ suc k = omega arith in rw e refl
 
 pub times_none : (n : ℕ) (t : List ℕ) → n ≤ 0 → times n t ≡ []
 times_none n t h = let e : n ≡ 0 = omega arith in rw e (unfold times in refl)

@@ -1,93 +1,129 @@
 -- What a writer ensures, and its laws: writers one after the other write their texts one after the other, and a loop over
 -- writers writes the whole once nothing is left. A caller cites these and never looks at where the pen stands.
-use Rattle.std.specs.Prelude.{◌≡◌, refl, List, [], ◌++◌, ℕ, min, ◌+◌, ◌≤◌, length, drop}
-use Rattle.std.proofs.Common.{sym, ap, subst, ◌∙◌, arith, length-append}
+use Rattle.std.specs.Prelude.{◌≡◌, refl, List, [], ◌∷◌, ◌++◌, ℕ, suc, min, ◌+◌, ◌≤◌, length, drop, set}
+use Rattle.std.specs.Borrow.{MutBor}
+use Rattle.std.proofs.Common.{sym, ap, subst, ◌∙◌, arith, length-set}
 use Rattle.pen.specs.declared.Pen.{Pen}
-use Rattle.pen.specs.Put.{last, put, put_none, put_both, length_put, put_past, put_in_room, put_last}
+use Rattle.pen.specs.Put.{last, put, put_in_room, put_past, put_last}
 
--- a pen that has written nothing
-pub record AtStart (p : Pen) : Type 0 where
-  pub place : p.at.0 ≡ 0
+-- the memory d and the place i after a text is written, a byte at a time: past the end nothing is stored and the place still goes on, as
+-- far as there is a number for it
+unfoldable pub ink : List ℕ → ℕ → List ℕ → List ℕ × ℕ
+ink d i [] = (d, i)
+ink d i (a ∷ t) = ink (set d i a) (min (i + 1) last) t
 
--- what every pen and every lent list fulfil: their numbers are of 64 bits
-pub record Ready (d : List ℕ) (p : Pen) : Type 0 where
-  pub place : p.at.0 ≤ last
-  pub size : length d ≤ last
+-- a pen over the lent memory, whose length has a number, that has written nothing
+pub record Over (out : MutBor (List ℕ)) (p : Pen) : Type 0 where
+  pub place : p.at ≡ 0
+  pub memory : p.out.now ≡ out.now
+  pub same : p.out.ghost_name ≡ out.ghost_name
+  pub size : length out.now ≤ last
 
--- lent d, a writer wrote t at p; it leaves d', and the pen at q
-pub record Wrote (d : List ℕ) (p : Pen) (t d' : List ℕ) (q : Pen) : Type 0 where
-  pub place : q.at.0 ≡ min (p.at.0 + length t) last
-  pub text : d' ≡ put d p.at.0 t
-  pub size : length d ≤ last
+-- from p on a writer wrote t, into the same memory; it leaves the pen as q
+pub record Wrote (p : Pen) (t : List ℕ) (q : Pen) : Type 0 where
+  pub ink : (q.out.now, q.at) ≡ ink p.out.now p.at t
+  pub same : q.out.ghost_name ≡ p.out.ghost_name
 
--- what a loop keeps: once todo is written at q over d', whole is written at p over d
-pub record Left (d : List ℕ) (p : Pen) (whole d' : List ℕ) (q : Pen) (todo : List ℕ) : Type 0 where
-  pub place : min (q.at.0 + length todo) last ≡ min (p.at.0 + length whole) last
-  pub text : put d' q.at.0 todo ≡ put d p.at.0 whole
-  pub here : q.at.0 ≤ last
-  pub size : length d ≤ last
+-- what a loop keeps: once todo is written at q, whole is written at p
+pub record Left (p : Pen) (whole : List ℕ) (q : Pen) (todo : List ℕ) : Type 0 where
+  pub ink : ink q.out.now q.at todo ≡ ink p.out.now p.at whole
+  pub same : q.out.ghost_name ≡ p.out.ghost_name
+
+-- ---- a text written a byte at a time
+
+ink_both : (d : List ℕ) (i : ℕ) (t u : List ℕ) → ink (ink d i t).0 (ink d i t).1 u ≡ ink d i (t ++ u)
+unfolding ink
+ink_both d i [] u = refl
+ink_both d i (a ∷ t) u = ink_both (set d i a) (min (i + 1) last) t u
+
+ink_length : (d : List ℕ) (i : ℕ) (t : List ℕ) → length (ink d i t).0 ≡ length d
+unfolding ink
+ink_length d i [] = refl
+ink_length d i (a ∷ t) = ink_length (set d i a) (min (i + 1) last) t ∙ length-set d i a
+
+-- it is stored as a whole, where memory and place have numbers
+pub ink_put : (t d : List ℕ) (i : ℕ) → i ≤ last → length d ≤ last → (put d i t, min (i + length t) last) ≡ ink d i t
+unfolding ink put
+ink_put [] d i h k = let z : min (i + 0) last ≡ i = omega arith in rw z refl
+ink_put (a ∷ t) d i h k =
+    let m : length (set d i a) ≤ last = omega (arith, length-set d i a) in
+    let e : min (min (i + 1) last + length t) last ≡ min (i + suc (length t)) last = omega arith in
+    let s : min (i + 1) last ≡ min (suc i) last = omega arith in
+    rw (← e, ← put_last (set d i a) (suc i) t m, ← s) (ink_put t (set d i a) (min (i + 1) last) (omega arith) m)
+
+-- ---- writers
 
 infixr 30 ◌⨾◌
 -- two writers one after the other
-pub ◌⨾◌ : {d : List ℕ} {p : Pen} {t d' : List ℕ} {q : Pen} {u d'' : List ℕ} {r : Pen} → Wrote d p t d' q → Wrote d' q u d'' r
-    → Wrote d p (t ++ u) d'' r
-◌⨾◌ {d} {p} {t} {d'} {q} {u} {d''} {r} v w =
-    let i = p.at.0 in
-    let l : length (put d i t) ≤ last = omega (arith, v.size, length_put d i t) in
+pub ◌⨾◌ : {p : Pen} {t : List ℕ} {q : Pen} {u : List ℕ} {r : Pen} → Wrote p t q → Wrote q u r → Wrote p (t ++ u) r
+◌⨾◌ {p} {t} {q} {u} {r} v w =
     record {
-      place = omega (arith, v.place, w.place, length-append t u);
-      text = rw (w.text, v.text, v.place) (put_last (put d i t) (i + length t) u l ∙ put_both d i t u);
-      size = v.size;
+      ink = w.ink ∙ ap (λ (m : List ℕ × ℕ). ink m.0 m.1 u) v.ink ∙ ink_both p.out.now p.at t u;
+      same = w.same ∙ v.same;
     }
 
-pub wrote_as : {d : List ℕ} {p : Pen} {t d' : List ℕ} {q : Pen} {u : List ℕ} → Wrote d p t d' q → t ≡ u → Wrote d p u d' q
-wrote_as {d} {p} {t} {d'} {q} w e = subst (λ (x : List ℕ). Wrote d p x d' q) e w
+pub wrote_as : {p : Pen} {t : List ℕ} {q : Pen} {u : List ℕ} → Wrote p t q → t ≡ u → Wrote p u q
+wrote_as {p} {t} {q} w e = subst (λ (x : List ℕ). Wrote p x q) e w
 
-pub wrote_none : {d : List ℕ} {p : Pen} → Ready d p → Wrote d p [] d p
-wrote_none {d} {p} r = record { place = omega arith; text = sym (put_none d p.at.0); size = r.size }
+pub wrote_none : {p : Pen} → Wrote p [] p
+unfolding ink
+wrote_none = record { ink = refl; same = refl }
 
-pub wrote_length : {d : List ℕ} {p : Pen} {t d' : List ℕ} {q : Pen} → Wrote d p t d' q → length d' ≡ length d
-wrote_length {d} {p} {t} w = rw w.text (length_put d p.at.0 t)
+pub wrote_length : {p : Pen} {t : List ℕ} {q : Pen} → Wrote p t q → length q.out.now ≡ length p.out.now
+wrote_length {p} {t} w = ap (λ (m : List ℕ × ℕ). length m.0) w.ink ∙ ink_length p.out.now p.at t
 
-pub wrote_ready : {d : List ℕ} {p : Pen} {t d' : List ℕ} {q : Pen} → Wrote d p t d' q → Ready d' q
-wrote_ready w = record { place = omega (arith, w.place); size = omega (arith, w.size, wrote_length w) }
+-- the text as a whole, where memory and place have numbers
+pub wrote_put : {p : Pen} {t : List ℕ} {q : Pen} → Wrote p t q → p.at ≤ last → length p.out.now ≤ last
+    → ◌≡◌ {A = List ℕ × ℕ} (put p.out.now p.at t, min (p.at + length t) last) (q.out.now, q.at)
+wrote_put {p} {t} w h k = ink_put t p.out.now p.at h k ∙ sym w.ink
 
-pub left_all : {d : List ℕ} {p : Pen} {whole : List ℕ} → Ready d p → Left d p whole d p whole
-left_all r = record { place = refl; text = refl; here = r.place; size = r.size }
+pub left_all : {p : Pen} {whole : List ℕ} → Left p whole p whole
+left_all = record { ink = refl; same = refl }
 
-pub left_step : {d : List ℕ} {p : Pen} {whole d' : List ℕ} {q : Pen} {t u d'' : List ℕ} {r : Pen} → Left d p whole d' q (t ++ u)
-    → Wrote d' q t d'' r → Left d p whole d'' r u
-left_step {d} {p} {whole} {d'} {q} {t} {u} {d''} {r} l v =
-    let j = q.at.0 in
-    let z : length (put d' j t) ≤ last = omega (arith, v.size, length_put d' j t) in
+pub left_step : {p : Pen} {whole : List ℕ} {q : Pen} {t u : List ℕ} {r : Pen} → Left p whole q (t ++ u) → Wrote q t r → Left p whole r u
+left_step {p} {whole} {q} {t} {u} {r} l v =
     record {
-      place = omega (arith, l.place, v.place, length-append t u);
-      text = rw (v.text, v.place) (put_last (put d' j t) (j + length t) u z ∙ put_both d' j t u ∙ l.text);
-      here = omega (arith, v.place);
-      size = l.size;
+      ink = ap (λ (m : List ℕ × ℕ). ink m.0 m.1 u) v.ink ∙ ink_both q.out.now q.at t u ∙ l.ink;
+      same = v.same ∙ l.same;
     }
 
-pub left_done : {d : List ℕ} {p : Pen} {whole d' : List ℕ} {q : Pen} → Left d p whole d' q [] → Wrote d p whole d' q
-left_done {d} {p} {whole} {d'} {q} l =
-    record { place = omega (arith, l.place, l.here); text = sym (put_none d' q.at.0) ∙ l.text; size = l.size }
+pub left_done : {p : Pen} {whole : List ℕ} {q : Pen} → Left p whole q [] → Wrote p whole q
+unfolding ink
+left_done l = record { ink = l.ink; same = l.same }
 
-pub left_length : {d : List ℕ} {p : Pen} {whole d' : List ℕ} {q : Pen} {todo : List ℕ} → Left d p whole d' q todo → length d' ≡ length d
-left_length {d} {p} {whole} {d'} {q} {todo} l = sym (length_put d' q.at.0 todo) ∙ ap length l.text ∙ length_put d p.at.0 whole
+pub left_length : {p : Pen} {whole : List ℕ} {q : Pen} {todo : List ℕ} → Left p whole q todo → length q.out.now ≡ length p.out.now
+left_length {p} {whole} {q} {todo} l =
+    sym (ink_length q.out.now q.at todo) ∙ ap (λ (m : List ℕ × ℕ). length m.0) l.ink ∙ ink_length p.out.now p.at whole
 
-pub left_as : {d : List ℕ} {p : Pen} {whole d' : List ℕ} {q : Pen} {t u : List ℕ} → Left d p whole d' q t → t ≡ u
-    → Left d p whole d' q u
-left_as {d} {p} {whole} {d'} {q} l e = subst (λ (x : List ℕ). Left d p whole d' q x) e l
+pub left_as : {p : Pen} {whole : List ℕ} {q : Pen} {t u : List ℕ} → Left p whole q t → t ≡ u → Left p whole q u
+left_as {p} {whole} {q} l e = subst (λ (x : List ℕ). Left p whole q x) e l
 
--- a text written from the start into a list that has room for it: the list then begins with it, and the place is its length
-pub wrote_front : {d : List ℕ} {p : Pen} {t d' : List ℕ} {q : Pen} → AtStart p → Wrote d p t d' q → length t ≤ length d
-    → (q.at.0 ≡ length t) × (d' ≡ t ++ drop (length t) d)
-wrote_front {d} {p} {t} {d'} {q} s w h =
-    let z : 0 + length t ≡ length t = omega arith in
-    let k : 0 + length t ≤ length d = omega arith in
-    (omega (arith, w.place, w.size, s.place), rw (← z) (rw s.place at w.text ∙ put_in_room t d 0 k))
+-- ---- what a writer over lent memory leaves there
+
+wrote_whole : {out : MutBor (List ℕ)} {p : Pen} {t : List ℕ} {q : Pen} → Over out p → Wrote p t q
+    → ◌≡◌ {A = List ℕ × ℕ} (put out.now 0 t, min (0 + length t) last) (q.out.now, q.at)
+wrote_whole {out} {p} {t} {q} s w = ink_put t out.now 0 (omega arith) s.size ∙ rw (s.memory, s.place) at (sym w.ink)
+
+-- a text written from the start into memory that has room for it: this then begins with it, and the place is its length
+pub wrote_front : {out : MutBor (List ℕ)} {p : Pen} {t : List ℕ} {q : Pen} → Over out p → Wrote p t q → length t ≤ length out.now
+    → (q.at ≡ length t) × (q.out.now ≡ t ++ drop (length t) out.now)
+wrote_front {out} {p} {t} {q} s w k =
+    let e = wrote_whole s w in
+    let h = s.size in
+    let z : 0 + length t ≡ length t = omega arith in (
+      omega (arith, ap (λ (m : List ℕ × ℕ). m.1) e),
+      sym (ap (λ (m : List ℕ × ℕ). m.0) e) ∙ rw z at (put_in_room t out.now 0 (omega arith)),
+    )
+
+-- a text that has a number of bytes is measured, wherever it is written
+pub wrote_told : {out : MutBor (List ℕ)} {p : Pen} {t : List ℕ} {q : Pen} → Over out p → Wrote p t q → length t ≤ last → q.at ≡ length t
+wrote_told {out} {p} {t} {q} s w k = omega (arith, k, ap (λ (m : List ℕ × ℕ). m.1) (wrote_whole s w))
 
 -- a text written nowhere is measured
-pub wrote_nowhere : {p : Pen} {t d' : List ℕ} {q : Pen} → AtStart p → Wrote [] p t d' q → length t ≤ last
-    → (q.at.0 ≡ length t) × (d' ≡ [])
-wrote_nowhere {p} {t} {d'} {q} s w h =
-    (omega (arith, w.place, s.place), w.text ∙ put_past t [] p.at.0 (omega arith))
+pub wrote_nowhere : {out : MutBor (List ℕ)} {p : Pen} {t : List ℕ} {q : Pen} → Over out p → out.now ≡ [] → Wrote p t q → length t ≤ last
+    → (q.at ≡ length t) × (q.out.now ≡ [])
+wrote_nowhere {out} {p} {t} {q} s n w k =
+    let e = wrote_whole s w in (
+      omega (arith, k, ap (λ (m : List ℕ × ℕ). m.1) e),
+      sym (ap (λ (m : List ℕ × ℕ). m.0) e) ∙ put_past t out.now 0 (rw n (omega arith)) ∙ n,
+    )

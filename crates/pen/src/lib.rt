@@ -1,96 +1,59 @@
-// Writing into lent memory. Nothing is required of a caller: past the end of `out` nothing is stored and the place still goes
-// on, so the same walk over `&mut out[..0]` measures. At 2^64 - 1 the place stays.
+// Writing into lent memory. Nothing is required of a caller: past the end nothing is stored and the place still goes on, so the same walk
+// over `&mut []` measures. At 2^64 - 1 the place stays.
 #![tactic(auto)]
 
-ghost use Rattle.std.specs.Prelude.{◌≡◌, ◌∷◌, [], ◌+◌, ◌-◌, min, length};
+ghost use Rattle.std.specs.Prelude.{◌∷◌, [], ◌-◌, ◌≡◌, min, length};
 ghost use Rattle.meaning.specs.Settings.{times};
-ghost use Rattle.pen.specs.Put.{last, put};
-ghost use Rattle.pen.specs.Wrote.{AtStart, Wrote};
+ghost use Rattle.pen.specs.Put.{put};
+ghost use Rattle.pen.specs.Wrote.{Over, Wrote};
 
-const LAST: usize = 0xffff_ffff_ffff_ffff;
-
-// Where the next byte goes. Callers use the laws of `Wrote`, never the fields.
-#[derive(Clone, Copy)]
-pub struct Pen {
-    pub at: meaning::Offset,
+// The lent memory, and where the next byte goes: no Vec, since there is no heap and the place goes on past the end. Callers use the laws
+// of `Wrote`, and of the fields the place alone.
+#[derive(Drop)]
+pub struct Pen<'a> {
+    pub out: &'a mut [u8],
+    pub at: usize,
 }
 
-pub fn start() -> Pen
-    ensures { AtStart result }
-{
-    Pen {
-        at: meaning::Offset(0),
+impl<'a> Pen<'a> {
+    pub fn over(out: &'a mut [u8]) -> Pen<'a>
+        ensures { Over out.entry result }
+    {
+        Pen { out, at: 0 }
     }
-}
 
-// `n` places further.
-fn onward(pen: Pen, n: usize) -> Pen
-    ensures { result.at.0 ≡ min (pen.at.0 + n) last }
-{
-    let at = pen.at.0;
-    if n <= LAST - at {
-        return Pen {
-            at: meaning::Offset(at + n),
-        };
+    pub fn write_byte(&mut self, b: u8)
+        ensures { Wrote self.old (b ∷ []) self.new }
+    {
+        if self.at < self.out.len() {
+            self.out[self.at] = b;
+        }
+        self.at = self.at.saturating_add(1);
     }
-    Pen {
-        at: meaning::Offset(LAST),
-    }
-}
 
-// The `n` bytes that there is room for. The loop has no other test, so that it becomes one copy of memory.
-fn store(out: &mut [u8], at: usize, bytes: &[u8], n: usize)
-    requires { n ≡ min (length bytes.now) (length out.old - at) }
-    ensures { out.new ≡ put out.old at bytes.now }
-{
-    let mut i = 0;
-    while i < n {
-        out[at + i] = bytes[i];
-        i += 1;
+    // Where all fits, what is copied has the length of `bytes`, which a caller mostly knows: a few moves. Measuring copies nothing.
+    pub fn write(&mut self, bytes: &[u8])
+        ensures { Wrote self.old bytes.now self.new }
+    {
+        if bytes.is_empty() {
+            return;
+        }
+        let start = self.at.min(self.out.len());
+        let room = self.out.len() - start;
+        if bytes.len() <= room {
+            self.out[start..start + bytes.len()].copy_from_slice(bytes);
+        } else if 0 < room {
+            self.out[start..].copy_from_slice(&bytes[..room]);
+        }
+        self.at = self.at.saturating_add(bytes.len());
     }
-}
 
-pub fn write_byte(out: &mut [u8], pen: Pen, b: u8) -> Pen
-    ensures { Wrote out.old pen (b ∷ []) out.new result }
-{
-    let at = pen.at.0;
-    if at < out.len() {
-        out[at] = b;
-        return Pen {
-            at: meaning::Offset(at + 1),
-        };
+    // `bytes`, so many times.
+    pub fn write_times(&mut self, bytes: &[u8], count: usize)
+        ensures { Wrote self.old (times count bytes.now) self.new }
+    {
+        for _ in 0..count {
+            self.write(bytes);
+        }
     }
-    onward(pen, 1)
-}
-
-pub fn write(out: &mut [u8], pen: Pen, bytes: &[u8]) -> Pen
-    ensures { Wrote out.old pen bytes.now out.new result }
-{
-    let at = pen.at.0;
-    let n = bytes.len();
-    if out.len() <= at {
-        return onward(pen, n);
-    }
-    let room = out.len() - at;
-    if n <= room {
-        store(out, at, bytes, n);
-        return Pen {
-            at: meaning::Offset(at + n),
-        };
-    }
-    store(out, at, bytes, room);
-    onward(pen, n)
-}
-
-// `bytes`, so many times.
-pub fn write_times(out: &mut [u8], pen: Pen, bytes: &[u8], count: usize) -> Pen
-    ensures { Wrote out.old pen (times count bytes.now) out.new result }
-{
-    let mut left = count;
-    let mut p = pen;
-    while 0 < left {
-        left -= 1;
-        p = write(out, p, bytes);
-    }
-    p
 }

@@ -1,8 +1,12 @@
 -- How many bytes at the front of a text stand for themselves. That run is written as it is, and behind it is a byte to be escaped,
 -- or the end.
-use Rattle.std.specs.Prelude.{◌≡◌, refl, Bool, true, false, List, [], ◌∷◌, ◌++◌, ℕ, suc, ◌+◌, ◌-◌, ◌≤◌, ◌<◌, eqb, length, take, drop, get_or, if◌then◌else◌}
-use Rattle.std.proofs.Common.{ap, arith, drop_of_length-le, length-drop, drop-drop, get_or-drop, eqb-true, ne_eqb}
+use Rattle.std.specs.Prelude.{◌≡◌, refl, Bool, true, false, not, cond, Some, None, ltb, List, [], ◌∷◌, ◌++◌, ℕ, suc, ◌+◌, ◌-◌, ◌≤◌, ◌<◌, eqb, length, take, drop, get_or, if◌then◌else◌}
+use Rattle.std.specs.List.{position, position_or_len}
+use Rattle.std.specs.Option.{unwrap_or}
+use Rattle.std.proofs.Common.{ap, arith, drop_of_length-le, length-drop, drop-drop, get_or-drop, eqb-true, ne_eqb, lt-ltb, le-ltb}
+use Rattle.std.proofs.Math.Decide.{dec_lt}
 use Rattle.std.proofs.lemmas.Bool.{eqb-false}
+use Rattle.std.proofs.lemmas.List.Recursion.{is_position_or_len}
 use Rattle.meaning.specs.Quoted.{class, escaped, body}
 use Rattle.pen.specs.Lists.{drop_one}
 use Rattle.quoted.specs.Escapes.{stands_for_itself}
@@ -11,6 +15,31 @@ unfoldable pub clean_run : List ℕ → ℕ
 unfolding class
 clean_run [] = 0
 clean_run (b ∷ s) = if eqb (class b) 0 then suc (clean_run s) else 0
+
+pub run_length_lem : (s : List ℕ) → clean_run s ≤ length s
+unfolding clean_run
+run_length_lem [] = omega arith
+run_length_lem (b ∷ s) = go (eqb (class b) 0) (run_length_lem s)
+  where
+    go : (x : Bool) → clean_run s ≤ length s → (if x then suc (clean_run s) else 0) ≤ suc (length s)
+    go true h = omega arith
+    go false h = omega arith
+
+at_front : (x : Bool) (n : ℕ) → (if x then suc n else 0) ≡ cond (not x) 0 (1 + n)
+at_front true n = omega arith
+at_front false n = refl
+
+-- that many bytes are before the first of another class
+run_is_first : (s : List ℕ) → clean_run s ≡ position_or_len (λ b. not (eqb (class b) 0)) s
+unfolding clean_run
+run_is_first s = is_position_or_len clean_run (λ b. not (eqb (class b) 0)) refl (λ b t. at_front (eqb (class b) 0) (clean_run t)) s
+
+pub run_from_position : (s : List ℕ) → unwrap_or (position (λ b. not (eqb (class b) 0)) s) (length s) ≡ clean_run s
+run_from_position s = rw (← run_is_first s) (go (dec_lt (clean_run s) (length s)))
+  where
+    go : Dec (clean_run s < length s) → unwrap_or (cond (ltb (clean_run s) (length s)) (Some (clean_run s)) None) (length s) ≡ clean_run s
+    go (yes h) = rw (lt-ltb (clean_run s) (length s) h) refl
+    go (no h) = rw (le-ltb (clean_run s) (length s) (omega arith)) (omega (arith, run_length_lem s))
 
 -- ---- looking for the end of the run from place i on, a byte of class c at a time
 
@@ -28,15 +57,6 @@ unfolding clean_run
 run_over s i h = rw (drop_of_length-le s h) (omega arith)
 
 -- ---- what the end j of the run from i on says
-
-run_length_lem : (s : List ℕ) → clean_run s ≤ length s
-unfolding clean_run
-run_length_lem [] = omega arith
-run_length_lem (b ∷ s) = go (eqb (class b) 0) (run_length_lem s)
-  where
-    go : (x : Bool) → clean_run s ≤ length s → (if x then suc (clean_run s) else 0) ≤ suc (length s)
-    go true h = omega arith
-    go false h = omega arith
 
 pub run_within : (s : List ℕ) (i j : ℕ) → j ≡ i + clean_run (drop i s) → i ≤ length s → (i ≤ j) × (j ≤ length s)
 run_within s i j e h = omega (arith, run_length_lem (drop i s), length-drop i s)

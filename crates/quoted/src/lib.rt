@@ -7,8 +7,10 @@ ghost use Rattle.pen.specs.Wrote.{Wrote};
 ghost use Rattle.quoted.specs.Classes.{classes};
 ghost use Rattle.quoted.specs.CleanRun.{clean_run};
 
-// The class of each byte value: 0 stands for itself, any other is the letter after its backslash.
-const CLASSES: [u8; 256] = [
+use pen::Pen;
+
+// The class of each byte value: 0 stands for itself, any other is the letter after its backslash. A byte each, for speed.
+const LETTERS: [u8; 256] = [
     b'u', b'u', b'u', b'u', b'u', b'u', b'u', b'u', b'b', // 08
     0, // 09, tab
     b'n', // 0A, line feed
@@ -26,90 +28,91 @@ const CLASSES: [u8; 256] = [
     0, 0, 0,
 ];
 
-// A constant is built anew wherever it is used: an entry makes the table once and lends it.
-pub fn classes() -> [u8; 256]
-    ensures { result ≡ classes }
-{
-    CLASSES
+// The table of classes. A constant is built anew wherever it is used: an entry makes the table once and lends it.
+#[derive(Drop)]
+pub struct Classes {
+    letters: [u8; 256],
+    ghost all: { letters ≡ classes },
 }
 
-pub fn class_of(table: &[u8; 256], b: u8) -> u8
-    requires { table.now ≡ classes }
-    ensures { result ≡ class b }
-{
-    let i = b as usize;
-    table[i]
-}
-
-// The place of the next byte to be escaped, at or after `from`, or the end.
-pub fn next_escape(table: &[u8; 256], value: &[u8], from: usize) -> usize
-    requires { table.now ≡ classes }
-    ensures { result ≡ from + clean_run (drop from value.now) }
-{
-    let mut i = from;
-    while i < value.len() {
-        if class_of(table, value[i]) != 0 {
-            return i;
-        }
-        i += 1;
+impl Classes {
+    pub fn new() -> Classes
+        ensures { result.letters ≡ classes }
+    {
+        Classes { letters: LETTERS }
     }
-    i
+
+    pub fn class_of(&self, b: u8) -> u8
+        ensures { result ≡ class b }
+    {
+        self.letters[usize::from(b)]
+    }
+
+    // How many bytes at the front stand for themselves.
+    fn clean_run(&self, value: &[u8]) -> usize
+        ensures { result ≡ clean_run value.now }
+    {
+        value
+            .iter()
+            .position(|b| self.class_of(*b) != 0)
+            .unwrap_or(value.len())
+    }
+
+    // The place of the next byte to be escaped, at or after `from`, or the end.
+    pub fn next_escape(&self, value: &[u8], from: usize) -> usize
+        ensures { result ≡ from + clean_run (drop from value.now) }
+    {
+        match value.get(from..) {
+            Some(rest) => from + self.clean_run(rest),
+            None => from,
+        }
+    }
+
+    // `\n`, or `\u001F`.
+    fn write_escape(&self, b: u8, pen: &mut Pen)
+        requires { class b ≡ 0 → ⊥ }
+        ensures { Wrote pen.old (escaped b) pen.new }
+    {
+        pen.write_byte(b'\\');
+        match self.class_of(b) {
+            b'u' => {
+                pen.write(b"u00");
+                pen.write_byte(hex_digit(b / 16));
+                pen.write_byte(hex_digit(b % 16));
+            }
+            letter => pen.write_byte(letter),
+        }
+    }
+
+    // What stands between the quotes.
+    fn write_body(&self, value: &[u8], pen: &mut Pen)
+        ensures { Wrote pen.old (body value.now) pen.new }
+    {
+        let mut from = 0;
+        // A `loop`: it goes from one byte to be escaped to the next, and counts nothing.
+        loop {
+            let escape = self.next_escape(value, from);
+            pen.write(&value[from..escape]);
+            if escape == value.len() {
+                return;
+            }
+            self.write_escape(value[escape], pen);
+            from = escape + 1;
+        }
+    }
+
+    pub fn write_quoted(&self, value: &[u8], pen: &mut Pen)
+        ensures { Wrote pen.old (quoted value.now) pen.new }
+    {
+        pen.write_byte(b'"');
+        self.write_body(value, pen);
+        pen.write_byte(b'"');
+    }
 }
 
 fn hex_digit(n: u8) -> u8
     requires { n < 16 }
     ensures { result ≡ hex_digit n }
 {
-    if n < 10 {
-        return 0x30 + n;
-    }
-    0x37 + n
-}
-
-// `\n`, or `\u001F`.
-fn write_escape(table: &[u8; 256], b: u8, out: &mut [u8], pen: pen::Pen) -> pen::Pen
-    requires { (table.now ≡ classes) × (class b ≡ 0 → ⊥) }
-    ensures { Wrote out.old pen (escaped b) out.new result }
-{
-    let letter = class_of(table, b);
-    if letter != b'u' {
-        let short = [b'\\', letter];
-        return pen::write(out, pen, &short);
-    }
-    let long = [
-        b'\\',
-        b'u',
-        b'0',
-        b'0',
-        hex_digit(b / 16),
-        hex_digit(b % 16),
-    ];
-    pen::write(out, pen, &long)
-}
-
-// What stands between the quotes.
-fn write_body(table: &[u8; 256], value: &[u8], out: &mut [u8], pen: pen::Pen) -> pen::Pen
-    requires { table.now ≡ classes }
-    ensures { Wrote out.old pen (body value.now) out.new result }
-{
-    let mut i = 0;
-    let mut p = pen;
-    loop {
-        let j = next_escape(table, value, i);
-        p = pen::write(out, p, &value[i..j]);
-        if value.len() <= j {
-            return p;
-        }
-        p = write_escape(table, value[j], out, p);
-        i = j + 1;
-    }
-}
-
-pub fn write_quoted(table: &[u8; 256], value: &[u8], out: &mut [u8], pen: pen::Pen) -> pen::Pen
-    requires { table.now ≡ classes }
-    ensures { Wrote out.old pen (quoted value.now) out.new result }
-{
-    let p = pen::write(out, pen, b"\"");
-    let q = write_body(table, value, out, p);
-    pen::write(out, q, b"\"")
+    if n < 10 { b'0' + n } else { b'A' + (n - 10) }
 }

@@ -1,28 +1,22 @@
--- What reading answers once its text is written, or measured and found too long: the definition's answer for that text.
-use Rattle.std.proofs.Math.Path.{◌≡◌, ◌∙◌}
-use Rattle.std.proofs.Common.{ap, le-leb}
+-- What reading answers once its text is stored, or measured and found too long: the definition's answer for that text.
+use Rattle.std.proofs.Common.{◌≡◌, ◌∙◌, ap, le-leb, arith, ℕ, List, ◌++◌, ◌≤◌, ◌<◌, length, drop, Result, Ok, Err}
 use Rattle.std.proofs.Math.Option.{Option}
-use mathlib.Core.List.{List, [], ◌++◌}
-use Prim.Native.Nat.{ℕ, ◌≤◌, ◌<◌}
-use Rattle.std.specs.Prelude.{length, drop}
 use Rattle.std.proofs.lemmas.Bool.{lt-leb}
+use Rattle.meaning.specs.declared.Form.{Form}
 use Rattle.meaning.specs.declared.Form.TheVariants.{Block}
-use Rattle.meaning.specs.declared.Reading.{Reading}
-use Rattle.meaning.specs.declared.Reading.TheVariants.{Value, Refused}
+use Rattle.meaning.specs.declared.Offset.{Offset}
+use Rattle.meaning.specs.declared.Refusal.{Refusal}
 use Rattle.meaning.specs.declared.Refusal.TheVariants.{Room}
-use Rattle.meaning.specs.Reading.{Form, block_form, value}
+use Rattle.meaning.specs.Reading.{Form as FormRead, block_form, value}
 use Rattle.meaning.specs.Answers.{Answer, answer, reading_answer}
 use Rattle.meaning.specs.Entries.{written, read_of}
-use Rattle.pen.specs.declared.Pen.{Pen}
-use Rattle.pen.specs.Put.{last}
-use Rattle.pen.specs.Wrote.{AtStart, Wrote, wrote_front, wrote_nowhere}
 
 -- an answer, the form that it names, and the output after
 abbrev pub Outcome : Type 0
-Outcome = Answer × Option Form × List ℕ
+Outcome = Answer × Option FormRead × List ℕ
 
 -- the text is v, and d the output before
-abbrev pub Answered : List ℕ → List ℕ → Reading → List ℕ → Type 0
+abbrev pub Answered : List ℕ → List ℕ → Result (Form × Offset) Refusal → List ℕ → Type 0
 Answered v d r d' = ((reading_answer r).0, (reading_answer r).1, d') ≡ read_of (value block_form v) d
 
 fits : (v d : List ℕ) → length v ≤ length d → written v d ≡ (answer 0 0 (length v), v ++ drop (length v) d)
@@ -33,26 +27,12 @@ too_long : (v d : List ℕ) → length d < length v → written v d ≡ (answer 
 unfolding written
 too_long v d h = rw (lt-leb (length v) (length d) h)
 
-pub value_is_written : (v d : List ℕ) (p : Pen) (d' : List ℕ) (q : Pen) (r : Reading) → AtStart p → Wrote d p v d' q
-    → length v ≤ length d
-    → r ≡ Value Block q.at → Answered v d r d'
-value_is_written v d p d' q r s w h e = let f = wrote_front s w h in rw (e, f.0, f.1, fits v d h)
+pub value_is_stored : (v d m : List ℕ) (n : ℕ) → n ≡ length v → length v ≤ length d → m ≡ v ++ drop (length v) d
+    → Answered v d (Ok (Block, record { 0 = n })) m
+value_is_stored v d m n e k f = rw (e, f, fits v d k)
 
--- the measuring run leaves e of the empty part that it was lent
-module _ (v d : List ℕ) (p : Pen) (e : List ℕ) (q : Pen) (s : AtStart p) (w : Wrote [] p v e q) (l : length v ≤ last) where
-  pub room_is_short : length (e ++ d) < q.at.0 → Answered v d (Refused (Room q.at)) (e ++ d)
-  room_is_short h =
-      let m = wrote_nowhere s w l in
-      let k : length d < length v = rw (m.0, m.1) at h in
-      rw (m.0, m.1, too_long v d k)
-
-  pub measured_value_is_written : (d' : List ℕ) (q' : Pen) (r : Reading) → q.at.0 ≤ length (e ++ d) → Wrote (e ++ d) p v d' q'
-      → r ≡ Value Block q'.at → Answered v d r d'
-  measured_value_is_written d' q' r h x z =
-      let m = wrote_nowhere s w l in
-      let k : length v ≤ length d = rw (m.0, m.1) at h in
-      let y : Wrote d p v d' q' = rw m.1 at x in
-      value_is_written v d p d' q' r s y k z
+pub room_is_short : (v d : List ℕ) (n : ℕ) → n ≡ length v → length d < n → Answered v d (Err (Room (record { 0 = n }))) d
+room_is_short v d n e h = let k : length d < length v = omega (arith, e) in rw (e, too_long v d k)
 
 pub answered_as : (v w d : List ℕ) {x : Outcome} → x ≡ read_of (value block_form v) d → v ≡ w → x ≡ read_of (value block_form w) d
 answered_as v w d a e = a ∙ ap (λ (x : List ℕ). read_of (value block_form x) d) e

@@ -1,2 +1,4 @@
-pub mod Answered
+pub mod Fronts
+pub mod Ends
 pub mod Parts
+pub mod Answered

@@ -1,1 +1,3 @@
 pub mod Indent
+pub mod White
+pub mod Before

@@ -1,11 +1,9 @@
 // Reads one block string straight from its source: no line is copied before it is written.
 #![tactic(auto)]
 
-ghost use Rattle.std.specs.Prelude.{◌≡◌, ◌+◌, ◌≤◌, ◌<◌, min, length, take, drop};
+ghost use Rattle.std.specs.Prelude.{◌≡◌, ◌++◌, ◌+◌, ◌≤◌, ◌<◌, false, slice_index, IsTrue, MatchOption, min, length, take, drop};
 ghost use Rattle.meaning.specs.Block.{indent, common_indent, block_string_value};
 ghost use Rattle.meaning.specs.Reading.{block_form, value, block_front, characters, as_block};
-ghost use Rattle.meaning.specs.declared.Form.TheVariants.{Block};
-ghost use Rattle.meaning.specs.declared.Reading.TheVariants.{Value};
 ghost use Rattle.meaning.specs.Answers.{reading_answer};
 ghost use Rattle.meaning.specs.Entries.{read_of};
 ghost use Rattle.pen.specs.Wrote.{Wrote};
@@ -18,348 +16,288 @@ ghost use Rattle.read_block_laws.specs.TrimmedEnd.{is_white, EndsAt};
 ghost use Rattle.read_block_laws.specs.LeastIndent.{with_line};
 ghost use Rattle.read_block_laws.specs.Text.{stops, run_length, end_length, text_of};
 ghost use Rattle.read_block_laws.specs.Plain.{is_mark, marked, Plain};
+ghost use Rattle.read_block.specs.Before.{CountsBefore};
 ghost use Rattle.read_block.specs.Indent.{indent_seen};
+ghost use Rattle.read_block.specs.White.{WhitePast};
 
-const LINE_FEED: u8 = 0x0A;
+use meaning::{Form, Offset, Refusal};
+use pen::Pen;
 
-const CARRIAGE_RETURN: u8 = 0x0D;
-
-const QUOTE: u8 = 0x22;
-
-const BACKSLASH: u8 = 0x5C;
-
+#[tactic(auto, unfolding(read_block_laws::specs::FirstLine::is_line_end))]
 fn is_line_end(b: u8) -> bool
     ensures { result ≡ is_line_end b }
 {
-    (b == LINE_FEED) | (b == CARRIAGE_RETURN)
+    matches!(b, b'\n' | b'\r')
 }
 
+#[tactic(auto, unfolding(read_block_laws::specs::TrimmedEnd::is_white))]
 fn is_white(b: u8) -> bool
     ensures { result ≡ is_white b }
 {
-    is_line_end(b) | marks::is_blank(b)
+    is_line_end(b) || marks::is_blank(b)
 }
 
-// `\"""` stands at `i`.
-fn is_escape(s: &[u8], i: usize) -> bool
-    ensures { result ≡ escapes (drop i s.now) }
+// `\"""` stands at the front.
+#[tactic(auto, unfolding(read_block_laws::specs::Unescaped::escapes, meaning::specs::Block::three_quotes))]
+fn is_escape(s: &[u8]) -> bool
+    ensures value { result ≡ escapes s.now }
+    ensures long { IsTrue result → 4 ≤ length s.now }
 {
-    if s.len() <= i {
-        return false;
-    }
-    if s[i] != BACKSLASH {
-        return false;
-    }
-    marks::three_quotes(s, i + 1)
+    matches!(s, [b'\\', b'"', b'"', b'"', ..])
 }
 
 // LF, CR, a quote or a backslash. Nothing branches, so that sixteen bytes are tested at once.
+#[tactic(auto, unfolding(read_block_laws::specs::Plain::is_mark))]
 fn is_mark(b: u8) -> bool
     ensures { result ≡ is_mark b }
 {
-    (b == LINE_FEED) | (b == CARRIAGE_RETURN) | (b == QUOTE) | (b == BACKSLASH)
+    (b == b'\n') | (b == b'\r') | (b == b'"') | (b == b'\\')
 }
 
-// A mark is among the sixteen bytes from `i` on.
-fn has_mark(s: &[u8], i: usize) -> bool
-    requires { i + 16 ≤ length s.now }
-    ensures { result ≡ marked (take 16 (drop i s.now)) }
+// A mark is among the sixteen bytes.
+fn has_mark(stride: &[u8; 16]) -> bool
+    ensures { result ≡ marked stride.now }
 {
-    let mut found = false;
-    let mut k = 0;
-    while k < 16 {
-        found = found | is_mark(s[i + k]);
-        k += 1;
-    }
-    found
+    stride.iter().fold(false, |found, b| found | is_mark(*b))
 }
 
-// Passes over bytes that are no marks, sixteen at a time.
-fn past_plain(s: &[u8], i: usize) -> usize
-    requires { i ≤ length s.now }
-    ensures { Plain s.now i result }
+// How many bytes at the front are passed over sixteen at a time: there is no mark among them.
+fn plain_length(s: &[u8]) -> usize
+    ensures { Plain s.now 0 result }
 {
-    let mut j = i;
-    while 16 <= s.len() - j {
-        if has_mark(s, j) {
-            return j;
-        }
-        j += 16;
-    }
-    j
+    let (strides, _) = s.as_chunks::<16>();
+    16 * strides
+        .iter()
+        .take_while(|stride| !has_mark(stride))
+        .count()
 }
 
-// Passes over all bytes that are no marks.
-fn next_mark(s: &[u8], i: usize) -> usize
-    requires { i ≤ length s.now }
-    ensures { Plain s.now i result }
+// How many bytes stand before the first that the test names, which may name marks alone.
+fn length_before<F: Fn(u8) -> bool>(s: &[u8], ends: F) -> usize
+    requires { F.IsAlwaysCallable ends }
+    ensures { CountsBefore s.now (F.post ends) result }
 {
-    let mut j = past_plain(s, i);
-    while j < s.len() {
-        if is_mark(s[j]) {
-            return j;
-        }
-        j += 1;
-    }
-    j
+    let plain = plain_length(s);
+    plain + s[plain..].iter().take_while(|b| !ends(**b)).count()
+}
+
+// How many bytes stand before the first mark.
+fn marks_behind(s: &[u8]) -> usize
+    ensures { Plain s.now 0 result }
+{
+    length_before(s, is_mark)
 }
 
 // The first three quotes that are not escaped are the last three bytes.
 fn is_closed(s: &[u8]) -> bool
     ensures { result ≡ closed s.now }
 {
-    let mut i = next_mark(s, 0);
-    while i < s.len() {
-        if marks::three_quotes(s, i) {
-            return i + 3 == s.len();
-        }
-        if is_escape(s, i) {
-            i = next_mark(s, i + 4);
-        } else {
-            i = next_mark(s, i + 1);
+    let mut rest = s;
+    loop {
+        rest = &rest[marks_behind(rest)..];
+        match rest {
+            [] => return false,
+            _ if marks::three_quotes(rest, 0) => return rest.len() == 3,
+            _ if is_escape(rest) => rest = &rest[4..],
+            _ => rest = &rest[1..],
         }
     }
-    false
 }
 
-// Where the spaces and tabs from `i` on end.
-fn blanks_end(s: &[u8], i: usize) -> usize
-    ensures { result ≡ i + indent (drop i s.now) }
+// How many spaces and tabs stand at the front.
+fn indent(s: &[u8]) -> usize
+    ensures value { result ≡ indent s.now }
+    ensures within { result ≤ length s.now }
 {
-    let mut j = i;
-    while j < s.len() {
-        if !marks::is_blank(s[j]) {
-            return j;
-        }
-        j += 1;
-    }
-    j
+    s.iter().take_while(|b| marks::is_blank(**b)).count()
 }
 
-// Where the line ends that goes on at `i`.
-fn line_end(s: &[u8], i: usize) -> usize
-    requires { i ≤ length s.now }
-    ensures { result ≡ i + line_length (drop i s.now) }
+// How many bytes stand before the first line end.
+fn line_length(s: &[u8]) -> usize
+    ensures value { result ≡ line_length s.now }
+    ensures within { result ≤ length s.now }
 {
-    let mut j = past_plain(s, i);
-    while j < s.len() {
-        if is_line_end(s[j]) {
-            return j;
-        }
-        j += 1;
-    }
-    j
+    length_before(s, is_line_end)
 }
 
 // Where the first line that is not blank starts; the end where there is none.
 fn text_start(s: &[u8]) -> usize
     ensures { StartsAt s.now result }
 {
-    let mut i = 0;
-    while i < s.len() {
-        let text = blanks_end(s, i);
-        if text == s.len() {
-            return text;
+    let mut start = 0;
+    // A `loop` over places: where the text starts is what is asked for. It goes from line to line.
+    loop {
+        let text = start + indent(&s[start..]);
+        match s.get(text) {
+            Some(b) if is_line_end(*b) => start = text + 1,
+            Some(_) => return start,
+            None => return text,
         }
-        if !is_line_end(s[text]) {
-            return i;
-        }
-        i = text + 1;
     }
-    i
+}
+
+// The last byte that is neither a blank nor a line end.
+fn last_of_text(s: &[u8]) -> Option<usize>
+    ensures { MatchOption result (WhitePast s.now 0)
+        (λ last. last < length s.now × is_white (slice_index s.now last) ≡ false × WhitePast s.now (last + 1)) }
+{
+    s.iter().rposition(|b| !is_white(*b))
 }
 
 // Where the last line that is not blank ends; the start where there is none.
 fn text_end(s: &[u8]) -> usize
     ensures { EndsAt s.now result }
 {
-    let mut j = s.len();
-    while 0 < j {
-        if !is_white(s[j - 1]) {
-            return line_end(s, j);
-        }
-        j -= 1;
+    match last_of_text(s) {
+        Some(last) => last + 1 + line_length(&s[last + 1..]),
+        None => 0,
     }
-    j
 }
 
-// The least indent of the lines seen so far that are not blank.
-#[derive(Clone, Copy)]
-enum Indent {
-    Unknown,
-    Least(usize),
-}
-
-// With a line of so many bytes, of which the first are blanks. A line of blanks alone does not count.
-fn with_line(seen: Indent, blanks: usize, length: usize) -> Indent
-    ensures { indent_seen result ≡ with_line blanks length (indent_seen seen) }
+// The least indent seen, with a line of so many blanks and so many bytes behind them. A line of blanks alone does not count.
+#[tactic(auto, unfolding(read_block_laws::specs::LeastIndent::with_line, meaning::specs::Block::lesser))]
+fn with_line(seen: Option<usize>, blanks: usize, others: usize) -> Option<usize>
+    ensures { indent_seen result ≡ with_line blanks (blanks + others) (indent_seen seen) }
 {
-    if length <= blanks {
+    if others == 0 {
         return seen;
     }
-    let Indent::Least(n) = seen else {
-        return Indent::Least(blanks);
-    };
-    if n < blanks {
-        return Indent::Least(n);
-    }
-    Indent::Least(blanks)
+    Some(seen.map_or(blanks, |n| n.min(blanks)))
 }
 
-fn number(seen: Indent) -> usize
-    ensures { result ≡ number_of (indent_seen seen) }
+// The least indent of the lines that are not blank; 0 where all are.
+fn common_indent(s: &[u8]) -> usize
+    ensures { result ≡ number_of (common_indent (lines_of s.now)) }
 {
-    match seen {
-        Indent::Unknown => 0,
-        Indent::Least(n) => n,
-    }
-}
-
-// The least indent of the lines from `from` on that are not blank; 0 where all are.
-fn common_indent(s: &[u8], from: usize) -> usize
-    ensures { result ≡ number_of (common_indent (lines_of (drop from s.now))) }
-{
-    let mut i = from;
-    let mut seen = Indent::Unknown;
-    while i < s.len() {
-        let text = blanks_end(s, i);
-        let end = line_end(s, text);
-        seen = with_line(seen, text - i, end - i);
-        if end == s.len() {
-            return number(seen);
-        }
-        i = end + 1;
-    }
-    number(seen)
-}
-
-// At most `n` blanks from `i` on are passed over.
-fn past_indent(s: &[u8], i: usize, n: usize) -> usize
-    ensures { result ≡ i + min n (indent (drop i s.now)) }
-{
-    let text = blanks_end(s, i);
-    if text - i < n {
-        return text;
-    }
-    i + n
-}
-
-// A line end or an escape stands at `i`.
-fn stops_at(s: &[u8], i: usize) -> bool
-    requires { i < length s.now }
-    ensures { result ≡ stops (drop i s.now) }
-{
-    is_line_end(s[i]) | is_escape(s, i)
-}
-
-// Where the bytes from `i` on that stand for themselves end.
-fn run_end(s: &[u8], i: usize) -> usize
-    requires { i ≤ length s.now }
-    ensures { result ≡ i + run_length (drop i s.now) }
-{
-    let mut j = past_plain(s, i);
-    while j < s.len() {
-        if stops_at(s, j) {
-            return j;
-        }
-        j += 1;
-    }
-    j
-}
-
-// Behind the line end at `e`; CR LF is one.
-fn past_line_end(s: &[u8], e: usize) -> usize
-    requires { e < length s.now }
-    ensures { result ≡ e + end_length (drop e s.now) }
-{
-    let next = e + 1;
-    if s[e] != CARRIAGE_RETURN {
-        return next;
-    }
-    if next == s.len() {
-        return next;
-    }
-    if s[next] != LINE_FEED {
-        return next;
-    }
-    next + 1
-}
-
-// The source from `from` on, unescaped, each line end a line feed, and each later line less at most `n` blanks.
-fn write_text(out: &mut [u8], pen: pen::Pen, s: &[u8], from: usize, n: usize) -> pen::Pen
-    ensures { Wrote out.old pen (text_of n (drop from s.now)) out.new result }
-{
-    let mut i = from;
-    let mut p = pen;
-    while i < s.len() {
-        let e = run_end(s, i);
-        p = pen::write(out, p, &s[i..e]);
-        if e == s.len() {
-            return p;
-        }
-        if s[e] == BACKSLASH {
-            p = pen::write(out, p, b"\"\"\"");
-            i = e + 4;
-        } else {
-            p = pen::write_byte(out, p, LINE_FEED);
-            i = past_indent(s, past_line_end(s, e), n);
+    let mut least = None;
+    let mut rest = s;
+    loop {
+        let (blanks, text) = rest.split_at(indent(rest));
+        let (line, behind) = text.split_at(line_length(text));
+        least = with_line(least, blanks.len(), line.len());
+        match behind {
+            [] => return least.unwrap_or(0),
+            [_, others @ ..] => rest = others,
         }
     }
-    p
 }
 
-fn value_of(p: pen::Pen) -> meaning::Reading
-    ensures { result ≡ Value Block p.at }
+// At most `n` blanks are passed over.
+fn past_indent(s: &[u8], n: usize) -> &[u8]
+    ensures { result.now ≡ drop (min n (indent s.now)) s.now }
 {
-    let length = p.at;
-    meaning::Reading::Value(meaning::Form::Block, length)
+    &s[n.min(indent(s))..]
 }
 
-// Writes the source from `from` on where there is room. It is measured first, unless its length shows that it fits.
-fn write_value(s: &[u8], from: usize, n: usize, out: &mut [u8]) -> meaning::Reading
+// A line end or an escape stands at the front.
+#[tactic(auto, unfolding(read_block_laws::specs::Text::stops))]
+fn stops(s: &[u8]) -> bool
+    ensures { result ≡ stops s.now }
+{
+    match s {
+        [b, ..] => is_line_end(*b) || is_escape(s),
+        [] => false,
+    }
+}
+
+// How many bytes at the front stand for themselves.
+fn run_length(s: &[u8]) -> usize
+    ensures value { result ≡ run_length s.now }
+    ensures within { result ≤ length s.now }
+{
+    // By place, since `stops` looks at the four bytes from each; with `find` over the same places the proof did not close.
+    for i in plain_length(s)..s.len() {
+        if stops(&s[i..]) {
+            return i;
+        }
+    }
+    s.len()
+}
+
+// Behind the line end at the front; CR LF is one.
+#[tactic(auto, unfolding(read_block_laws::specs::Text::end_length))]
+fn past_line_end(s: &[u8]) -> &[u8]
+    ensures { result.now ≡ drop (end_length s.now) s.now }
+{
+    match s {
+        [b'\r', b'\n', rest @ ..] => rest,
+        [_, rest @ ..] => rest,
+        [] => s,
+    }
+}
+
+// The source, unescaped, each line end a line feed, and each later line less at most `n` blanks.
+fn write_text(pen: &mut Pen, text: &[u8], n: usize)
+    ensures { Wrote pen.old (text_of n text.now) pen.new }
+{
+    let mut rest = text;
+    loop {
+        let (run, others) = rest.split_at(run_length(rest));
+        pen.write(run);
+        match others {
+            [] => return,
+            _ if is_escape(others) => {
+                pen.write(b"\"\"\"");
+                rest = &others[4..];
+            }
+            _ => {
+                pen.write_byte(b'\n');
+                rest = past_indent(past_line_end(others), n);
+            }
+        }
+    }
+}
+
+// Stores what `write_text` writes as far as there is room, and answers its length.
+fn store(text: &[u8], n: usize, out: &mut [u8]) -> usize
+    ensures length { result ≡ length (text_of n text.now) }
+    ensures stored { let t = text_of n text.now in length t ≤ length out.old → out.new ≡ t ++ drop (length t) out.old }
+{
+    let mut pen = Pen::over(out);
+    write_text(&mut pen, text, n);
+    pen.at
+}
+
+// Writes the text where there is room. It is measured first, unless its length shows that it fits.
+fn write_value(text: &[u8], n: usize, out: &mut [u8]) -> Result<(Form, Offset), Refusal>
     ensures { ((reading_answer result).0, (reading_answer result).1, out.new)
-        ≡ read_of (value block_form (text_of n (drop from s.now))) out.old }
+        ≡ read_of (value block_form (text_of n text.now)) out.old }
 {
-    let pen = pen::start();
-    if s.len() <= out.len() {
-        return value_of(write_text(out, pen, s, from, n));
+    if out.len() < text.len() {
+        let needed = store(text, n, &mut []);
+        if out.len() < needed {
+            return Err(Refusal::Room(Offset(needed)));
+        }
     }
-    let needed = write_text(&mut out[..0], pen, s, from, n).at;
-    if out.len() < needed.0 {
-        return meaning::Reading::Refused(meaning::Refusal::Room(needed));
-    }
-    value_of(write_text(out, pen, s, from, n))
+    Ok((Form::Block, Offset(store(text, n, out))))
 }
 
 // The source between the quotes.
-fn read_source(s: &[u8], out: &mut [u8]) -> meaning::Reading
+fn read_source(s: &[u8], out: &mut [u8]) -> Result<(Form, Offset), Refusal>
     ensures { ((reading_answer result).0, (reading_answer result).1, out.new)
         ≡ read_of (value block_form (block_string_value (unescaped s.now))) out.old }
 {
     let start = text_start(s);
     let rest = &s[start..];
-    let end = text_end(rest);
-    let text = &rest[..end];
+    let text = &rest[..text_end(rest)];
     if start == 0 {
-        let n = common_indent(text, line_end(text, 0));
-        return write_value(text, 0, n, out);
+        let n = common_indent(&text[line_length(text)..]);
+        return write_value(text, n, out);
     }
-    let n = common_indent(text, 0);
-    write_value(text, past_indent(text, 0, n), n, out)
+    let n = common_indent(text);
+    write_value(past_indent(text, n), n, out)
 }
 
 // Reads a text that begins with three quotes as one block string into `out`.
-pub fn read_block(text: &[u8], out: &mut [u8]) -> meaning::Reading
+pub fn read_block(text: &[u8], out: &mut [u8]) -> Result<(Form, Offset), Refusal>
     ensures { ((reading_answer result).0, (reading_answer result).1, out.new)
         ≡ read_of (as_block (characters block_front 0 (drop 3 text.now))) out.old }
 {
-    if text.len() < 3 {
-        return meaning::Reading::Refused(meaning::Refusal::Literal);
-    }
-    let s = &text[3..];
+    let Some(s) = text.get(3..) else {
+        return Err(Refusal::Literal);
+    };
     if !is_closed(s) {
-        return meaning::Reading::Refused(meaning::Refusal::Literal);
+        return Err(Refusal::Literal);
     }
-    let end = s.len() - 3;
-    read_source(&s[..end], out)
+    read_source(&s[..s.len() - 3], out)
 }

@@ -1,11 +1,8 @@
 -- What is written of a source, a piece at a time: bytes up to a line end or an escape stand for themselves, an escape is three
 -- quotes, and a line end is LF, behind which at most n blanks of the next line are left out.
 use Rattle.std.specs.Prelude.{◌≡◌, Bool, true, ◌&&◌, ◌||◌, ℕ, zero, suc, min, ◌+◌, ◌-◌, ◌≤◌, ◌<◌, eqb, length, take, drop, get_or, if◌then◌else◌}
-use Rattle.std.proofs.Math.Path.{refl, ap}
-use Rattle.std.proofs.Common.{sym, ◌∙◌, add-one, arith, length-drop, drop_of_length-le, drop-cons, drop-drop}
+use Rattle.std.proofs.Common.{List, [], ◌∷◌, ◌++◌, map, eq-eqb, ne_eqb, refl, ap, sym, ◌∙◌, add-one, arith, length-drop, drop_of_length-le, drop-cons, drop-drop}
 use Rattle.std.proofs.Math.Bool.{false}
-use mathlib.Core.List.{List, [], ◌∷◌, ◌++◌, map}
-use borrow.Author.Tests.{eq-eqb, ne_eqb}
 use Rattle.base.specs.Bools.{clash, and_false, or_left_false, or_right_false}
 use Rattle.meaning.specs.Ascii.{line_feed, carriage_return, backslash, triple_quote}
 use Rattle.meaning.specs.Settings.{is_blank}
@@ -75,7 +72,7 @@ known_escape_text n s =
     ∙ rw (escape_line l) (joined_after_quotes (unescaped l) (map (line_text n) ls))
     ∙ sym (ap (λ (t : List ℕ). triple_quote ++ t) (text_by_first n s))
 
-escape_text : (n b : ℕ) (s : List ℕ) → escapes (b ∷ s) ≡ true → text_of n (b ∷ s) ≡ triple_quote ++ text_of n (drop 3 s)
+pub escape_text : (n b : ℕ) (s : List ℕ) → escapes (b ∷ s) ≡ true → text_of n (b ∷ s) ≡ triple_quote ++ text_of n (drop 3 s)
 escape_text n b s e =
     let p = escape_is b s e in
     ap (λ (x : ℕ). text_of n (x ∷ s)) p.0
@@ -136,7 +133,7 @@ unfolding joined
 joined_after_empty [] o = absurd o
 joined_after_empty (l ∷ ls) o = refl
 
-line_end_text : (n b : ℕ) (s t : List ℕ) → is_line_end b ≡ true → t ≡ drop (end_length (b ∷ s)) (b ∷ s)
+pub line_end_text : (n b : ℕ) (s t : List ℕ) → is_line_end b ≡ true → t ≡ drop (end_length (b ∷ s)) (b ∷ s)
     → text_of n (b ∷ s) ≡ line_feed ∷ text_of n (drop (min n (indent t)) t)
 line_end_text n b s t e d =
     let o : other_lines (b ∷ s) ≡ lines_of t = others_are_lines b s ∙ rw (← d) in
@@ -171,7 +168,7 @@ run_within (b ∷ s) = go (stops (b ∷ s)) (run_within s)
     go true h = omega arith
     go false h = omega arith
 
-run_text : (n : ℕ) (s : List ℕ) → text_of n s ≡ take (run_length s) s ++ text_of n (drop (run_length s) s)
+pub run_text : (n : ℕ) (s : List ℕ) → text_of n s ≡ take (run_length s) s ++ text_of n (drop (run_length s) s)
 unfolding run_length
 run_text n [] = refl
 run_text n (b ∷ s) = go (stops (b ∷ s)) refl (run_text n s)
@@ -185,7 +182,7 @@ run_text n (b ∷ s) = go (stops (b ∷ s)) refl (run_text n s)
         let no_escape : escapes (b ∷ s) ≡ false = unfold stops in or_right_false (is_line_end b) (escapes (b ∷ s)) e in
         byte_text n b s no_end no_escape ∙ ap (λ (t : List ℕ). b ∷ t) ih
 
-run_stops : (s : List ℕ) → run_length s < length s → stops (drop (run_length s) s) ≡ true
+pub run_stops : (s : List ℕ) → run_length s < length s → stops (drop (run_length s) s) ≡ true
 unfolding run_length
 run_stops [] h = absurd (omega arith)
 run_stops (b ∷ s) h = go (stops (b ∷ s)) refl h (run_stops s)
@@ -255,7 +252,7 @@ pub nothing_is_written : (n : ℕ) (s : List ℕ) (i : ℕ) → length s ≤ i �
 nothing_is_written n s i h = rw (drop_of_length-le s h) (unfold text_of unescaped_after raw_lines_after joined in refl)
 
 -- the line end at e takes a byte at least, and stands within the text
-end_length_lem : (t : List ℕ) → 0 < length t → (0 < end_length t) × (end_length t ≤ length t)
+pub end_length_lem : (t : List ℕ) → 0 < length t → (0 < end_length t) × (end_length t ≤ length t)
 unfolding end_length
 end_length_lem [] h = absurd (omega arith)
 end_length_lem (b ∷ []) h = (omega arith, omega arith)

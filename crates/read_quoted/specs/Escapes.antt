@@ -1,17 +1,15 @@
 -- What is said of an escape, and what each escape means by its bytes. Four digits are looked at by their values: a value past 15 is no
 -- digit's.
-use Rattle.std.specs.Prelude.{◌≡◌, refl, Bool, true, false, ◌&&◌, List, [], ◌∷◌, ℕ, ◌+◌, ◌-◌, ◌*◌, ◌≤◌, ◌<◌, eqb, ltb, length, drop, get_or, if◌then◌else◌}
-use Rattle.std.proofs.Common.{sym, ap, ◌∙◌, arith, drop_of_length-le}
+use Rattle.std.specs.Prelude.{◌≡◌, refl, Option, Some, None, Bool, true, false, ◌&&◌, List, [], ◌∷◌, ℕ, ◌+◌, ◌-◌, ◌*◌, ◌≤◌, ◌<◌, eqb, ltb, length, drop, get_or, if◌then◌else◌}
+use Rattle.std.proofs.Common.{eq-eqb, ne_eqb, lt-ltb, le-ltb, le-leb, sym, ap, ◌∙◌, arith, drop_of_length-le}
 use Rattle.std.proofs.Math.ListN.{length-drop}
-use borrow.Author.Tests.{eq-eqb, ne_eqb, lt-ltb, le-ltb, le-leb}
 use Rattle.base.specs.Bools.{and_false}
 use Rattle.meaning.specs.Utf8.{scalar, encoded}
 use Rattle.meaning.specs.Quoted.{letter_u}
 use Rattle.meaning.specs.Reading.{Front, character, wrong, hex_value, unicode_escape, letter_byte, escape}
 use Rattle.pen.specs.Lists.{drop_one}
 use Rattle.read_quoted.specs.Encodings.{in_one_byte}
-use Rattle.read_quoted.specs.declared.Escaped.{Escaped}
-use Rattle.read_quoted.specs.declared.Escaped.TheVariants.{Scalar, Wrong}
+use Rattle.std.specs.Borrow.{Bor}
 
 -- an escape of k bytes after its backslash, at the front of s, stands for the scalar value n
 pub record Stands (s : List ℕ) (front : Front) (n k : ℕ) : Type 0 where
@@ -19,10 +17,15 @@ pub record Stands (s : List ℕ) (front : Front) (n k : ℕ) : Type 0 where
   pub within : k ≤ length s
   pub means : front ≡ character (encoded n) k
 
--- the answer on the text s after a backslash, where `front` is what it means
-abbrev pub EscapedIs : List ℕ → Front → Escaped → Type 0
-EscapedIs s front (Scalar n k) = Stands s front n k
-EscapedIs s front Wrong = front ≡ wrong
+-- what an escape of k bytes after its backslash means that stands for this character, or for none
+abbrev pub front_of : Option ℕ → ℕ → Front
+front_of (Some n) k = character (encoded n) k
+front_of None k = wrong
+
+-- the answer on the text s after a backslash, where `front` is what it means: the character, and what stands behind the escape
+abbrev pub EscapedIs : List ℕ → Front → Option (ℕ × Bor (List ℕ)) → Type 0
+EscapedIs s front (Some (n, rest)) = (k : ℕ) × (Stands s front n k × (rest.now ≡ drop k s))
+EscapedIs s front None = front ≡ wrong
 
 -- ---- `\u`
 
@@ -157,12 +160,3 @@ module _ (s : List ℕ) (i : ℕ) (h : i < length s) where
         within = omega (arith, length-drop i s);
         means = lettered b n e ∙ rw (ne_eqb b 0 z) (ap (λ (t : List ℕ). character t 1) (sym (in_one_byte b small)));
       }
-
--- ---- the answer taken apart
-
-pub answered_scalar : {s : List ℕ} {front : Front} {r : Escaped} {n k : ℕ} → EscapedIs s front r → r ≡ Scalar n k
-    → Stands s front n k
-answered_scalar h e = rw e at h
-
-pub answered_wrong : (s : List ℕ) {front : Front} {r : Escaped} → EscapedIs s front r → r ≡ Wrong → front ≡ wrong
-answered_wrong s h e = rw e at h

@@ -1,8 +1,8 @@
 -- What reading answers and leaves: refused where the text has no value, and otherwise by whether the value fits. A value is never longer
 -- than its text, so the measuring walk tells its length.
-use Rattle.std.specs.Prelude.{◌≡◌, refl, Bool, true, false, List, [], ◌∷◌, ◌++◌, ℕ, ◌+◌, ◌/◌, ◌%◌, ◌≤◌, ◌<◌, ltb, length, drop, if◌then◌else◌}
-use Rattle.std.proofs.Common.{sym, arith, length-append, length-drop, le-leb}
-use Rattle.std.proofs.Math.Option.{Option, none, some}
+use Rattle.std.specs.Prelude.{◌≡◌, refl, Option, Some, None, Bool, true, false, List, [], ◌∷◌, ◌++◌, ℕ, ◌+◌, ◌/◌, ◌%◌, ◌≤◌, ◌<◌, ltb, length, drop, if◌then◌else◌}
+use Rattle.std.proofs.Common.{sym, arith, length-append, le-leb}
+use Rattle.std.proofs.Math.Option.{Option as Maybe, none, some}
 use Rattle.std.proofs.lemmas.Bool.{lt-leb}
 use Rattle.meaning.specs.Ascii.{quote}
 use Rattle.meaning.specs.Utf8.{encoded}
@@ -11,12 +11,6 @@ use Rattle.meaning.specs.Answers.{answer}
 use Rattle.meaning.specs.Entries.{written, read_of}
 use Rattle.literal_laws.specs.Grammar.{Characters, close, more}
 use Rattle.literal_laws.specs.QuotedGrammar.{StringCharacter, byte, unicode, escaped, four_digits, quoted_text_is_the_grammar}
-use Rattle.pen.specs.declared.Pen.{Pen}
-use Rattle.pen.specs.Put.{last}
-use Rattle.pen.specs.Wrote.{AtStart, Wrote, wrote_as, wrote_front, wrote_nowhere}
-use Rattle.read_quoted.specs.declared.Walked.{Walked}
-use Rattle.read_quoted.specs.declared.Walked.TheVariants.{To, Wrong}
-use Rattle.read_quoted.specs.Walks.{Value, WalkedIs}
 
 -- ---- a value is never longer than its text
 
@@ -49,11 +43,18 @@ grammar_no_longer (more {t} {u} {s} {v} o g) =
 pub value_no_longer : (s v : List ℕ) → characters quoted_front 0 s ≡ some v → length v ≤ length s
 value_no_longer s v h = grammar_no_longer ((quoted_text_is_the_grammar s v).0 h)
 
--- ---- the outcome of each case
+-- ---- what is stored of a value, and the outcome of each case
 
-no_bytes : (e : List ℕ) → length e ≡ 0 → e ≡ []
-no_bytes [] h = refl
-no_bytes (a ∷ e) h = absurd (omega arith)
+-- the text has a value; its length is told, and where there is room it is stored over d, which leaves d'
+pub record Stored (text : Maybe (List ℕ)) (d d' : List ℕ) (n : ℕ) : Type 0 where
+  pub value : List ℕ
+  pub says : text ≡ some value
+  pub told : n ≡ length value
+  pub left : length value ≤ length d → d' ≡ value ++ drop (length value) d
+
+abbrev pub StoredIs : Maybe (List ℕ) → List ℕ → List ℕ → Option ℕ → Type 0
+StoredIs text d d' (Some n) = Stored text d d' n
+StoredIs text d d' None = text ≡ none
 
 fits : (v d : List ℕ) → length v ≤ length d
     → read_of (as_quoted (some v)) d ≡ (answer 0 0 (length v), some quoted_form, v ++ drop (length v) d)
@@ -64,37 +65,22 @@ short : (v d : List ℕ) → length d < length v → read_of (as_quoted (some v)
 unfolding as_quoted written
 short v d h = rw (lt-leb (length v) (length d) h)
 
--- the walk leaves e of no output
-pub no_value : (o : Option (List ℕ)) (e d : List ℕ) → length e ≡ 0 → o ≡ none
-    → (answer 9 0 0, none, e ++ d) ≡ read_of (as_quoted o) d
+pub no_value : (o : Maybe (List ℕ)) (d : List ℕ) → o ≡ none → (answer 9 0 0, none, d) ≡ read_of (as_quoted o) d
 unfolding as_quoted
-no_value o e d l h = rw (h, no_bytes e l)
+no_value o d h = rw h refl
 
--- a second walk writes the same value
-walked_again : {o : Option (List ℕ)} {d : List ℕ} {p : Pen} {d' : List ℕ} (r : Walked) (v : List ℕ) → o ≡ some v
-    → WalkedIs o d p d' r → (q : Pen) × Wrote d p v d' q
-walked_again {o} {d} {p} {d'} (To q) v e w = let z : w.value ≡ v = cc in (q, wrote_as w.wrote z)
-walked_again {o} {d} {p} {d'} Wrong v e w = let z : ◌≡◌ {A = ℕ} 0 1 = cc in absurd (omega arith)
+-- stored over e first, which measures
+module _ {o : Maybe (List ℕ)} {e e' : List ℕ} {n : ℕ} (m : Stored o e e' n) (d : List ℕ) where
+  pub value_too_long : length d < n → (answer 8 0 n, none, d) ≡ read_of (as_quoted o) d
+  value_too_long h =
+      let l : length d < length m.value = rw m.told at h in
+      rw (m.says, m.told) (sym (short m.value d l))
 
--- the first walk, over no output, leaves e of it, and the pen at q
-module _ (text d e : List ℕ) (p q : Pen) (small : length text ≤ last) (begun : AtStart p)
-    (m : Value (characters quoted_front 0 (drop 1 text)) [] p e q)
-  where
-    measured : (q.at.0 ≡ length m.value) × (e ≡ [])
-    measured =
-        wrote_nowhere begun m.wrote
-        (omega (arith, small, length-drop 1 text, value_no_longer (drop 1 text) m.value m.says))
-
-    pub value_too_long : length (e ++ d) < q.at.0
-        → (answer 8 0 q.at.0, none, e ++ d) ≡ read_of (as_quoted (characters quoted_front 0 (drop 1 text))) d
-    value_too_long h =
-        let l : length d < length m.value = rw (measured.0, measured.1) at h in
-        rw (m.says, measured.0, measured.1) (sym (short m.value d l))
-
-    pub value_written : (r : Walked) (b : Pen) (d' : List ℕ) → q.at.0 ≤ length (e ++ d) → AtStart b
-        → WalkedIs (characters quoted_front 0 (drop 1 text)) (e ++ d) b d' r
-        → (answer 0 0 q.at.0, some quoted_form, d') ≡ read_of (as_quoted (characters quoted_front 0 (drop 1 text))) d
-    value_written r b d' h start w =
-        let l : length m.value ≤ length d = rw (measured.0, measured.1) at h in
-        let again : (x : Pen) × Wrote d b m.value d' x = rw measured.1 at (walked_again r m.value m.says w) in
-        rw (m.says, measured.0, (wrote_front start again.1 l).1) (sym (fits m.value d l))
+  pub value_written : (d' : List ℕ) (r : Option ℕ) → n ≤ length d → StoredIs o d d' r
+      → (answer 0 0 n, some quoted_form, d') ≡ read_of (as_quoted o) d
+  value_written d' (Some k) h w =
+      let z : w.value ≡ m.value = cc in
+      let l : length m.value ≤ length d = rw m.told at h in
+      let s : d' ≡ m.value ++ drop (length m.value) d = rw z at w.left l in
+      rw (m.says, m.told, s) (sym (fits m.value d l))
+  value_written d' None h w = let z : ◌≡◌ {A = ℕ} 0 1 = cc in absurd (omega arith)

@@ -1,13 +1,9 @@
 -- Runs of bytes that stand for themselves in quoted text: they are read at once, and what ends a run is a quote, a backslash or a line
 -- end.
 use Rattle.std.specs.Prelude.{◌≡◌, refl, Bool, true, not, ◌&&◌, List, [], ◌∷◌, length, take, drop, get_or, if◌then◌else◌}
-use Rattle.std.proofs.Math.Path.{sym}
-use Rattle.std.proofs.Common.{ap, ◌∙◌, not-suc-le-zero, length-drop, drop_of_length-le, drop-drop, get_or-drop}
+use Rattle.std.proofs.Common.{ℕ, suc, ◌+◌, ◌-◌, ◌≤◌, ◌<◌, arith, eqb-true, ne_eqb, sym, ap, ◌∙◌, not-suc-le-zero, length-drop, drop_of_length-le, drop-drop, get_or-drop}
 use Rattle.std.proofs.Math.Bool.{false}
-use Prim.Native.Nat.{ℕ, suc, ◌+◌, ◌-◌, ◌≤◌, ◌<◌}
-use native.Mathlib.Omega.{arith}
 use Rattle.std.proofs.Math.Dec.{eqb}
-use borrow.Author.Tests.{eqb-true, ne_eqb}
 use Rattle.base.specs.Bools.{and_left, and_right, not_true}
 use Rattle.meaning.specs.Ascii.{line_feed, carriage_return, quote, backslash}
 use Rattle.meaning.specs.Quoted.{class}

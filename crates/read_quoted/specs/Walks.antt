@@ -1,7 +1,7 @@
 -- What a walk keeps and what it answers: what it has read is written, and what is left says the rest of the value.
-use Rattle.std.specs.Prelude.{◌≡◌, refl, Bool, true, false, not, ◌&&◌, ◌||◌, List, [], ◌∷◌, ◌++◌, ℕ, ◌+◌, ◌≤◌, ◌<◌, eqb, length, drop, get_or, if◌then◌else◌}
+use Rattle.std.specs.Prelude.{◌≡◌, refl, Option, Some, None, Bool, true, false, not, ◌&&◌, ◌||◌, List, [], ◌∷◌, ◌++◌, ℕ, ◌+◌, ◌≤◌, ◌<◌, eqb, length, drop, get_or, if◌then◌else◌}
 use Rattle.std.proofs.Common.{sym, subst, ◌∙◌, append-nil, arith, drop_of_length-le, drop-drop, ne_eqb}
-use Rattle.std.proofs.Math.Option.{Option, none, some}
+use Rattle.std.proofs.Math.Option.{Option as Maybe, none, some}
 use Rattle.base.specs.Bools.{clash}
 use Rattle.meaning.specs.Ascii.{line_feed, carriage_return, quote, backslash}
 use Rattle.meaning.specs.Utf8.{encoded}
@@ -9,50 +9,46 @@ use Rattle.meaning.specs.Reading.{character, wrong, escape, quoted_front, prepen
 use Rattle.literal_laws.specs.Characters.{prepend_nothing, prepend_twice, prepend_some, character_read, closing_read}
 use Rattle.pen.specs.declared.Pen.{Pen}
 use Rattle.pen.specs.Lists.{drop_one}
-use Rattle.pen.specs.Wrote.{Ready, Wrote, ◌⨾◌, wrote_as, wrote_none}
-use Rattle.read_quoted.specs.declared.Walked.{Walked}
-use Rattle.read_quoted.specs.declared.Walked.TheVariants.{To, Wrong}
+use Rattle.pen.specs.Wrote.{Wrote, ◌⨾◌, wrote_as, wrote_none}
 use Rattle.read_quoted.specs.Escapes.{Stands}
 use Rattle.read_quoted.specs.Runs.{plain}
 
 -- the text has a value, and it is written
-pub record Value (text : Option (List ℕ)) (d : List ℕ) (p : Pen) (d' : List ℕ) (q : Pen) : Type 0 where
+pub record Value (text : Maybe (List ℕ)) (p q : Pen) : Type 0 where
   pub value : List ℕ
   pub says : text ≡ some value
-  pub wrote : Wrote d p value d' q
+  pub wrote : Wrote p value q
 
--- the answer of a walk that was lent d and the pen p, and leaves d'
-abbrev pub WalkedIs : Option (List ℕ) → List ℕ → Pen → List ℕ → Walked → Type 0
-WalkedIs text d p d' (To q) = Value text d p d' q
-WalkedIs text d p d' Wrong = text ≡ none
+-- the answer of a walk that was lent the pen p and leaves q
+abbrev pub WalkedIs : Maybe (List ℕ) → Pen → Pen → Option Unit → Type 0
+WalkedIs text p q (Some _) = Value text p q
+WalkedIs text p q None = text ≡ none
 
 -- midway: `done` is written, and the text says `done` before what the rest says
-pub record Midway (text : Option (List ℕ)) (d : List ℕ) (p : Pen) (d' : List ℕ) (q : Pen) (rest : Option (List ℕ)) : Type 0 where
+pub record Midway (text : Maybe (List ℕ)) (p q : Pen) (rest : Maybe (List ℕ)) : Type 0 where
   pub done : List ℕ
-  pub wrote : Wrote d p done d' q
+  pub wrote : Wrote p done q
   pub says : text ≡ prepend done rest
 
-pub nothing_done : {text : Option (List ℕ)} {d : List ℕ} {p : Pen} → Ready d p → Midway text d p d p text
-nothing_done {text} r = record { done = []; wrote = wrote_none r; says = sym (prepend_nothing text) }
+pub nothing_done : {text : Maybe (List ℕ)} {p : Pen} → Midway text p p text
+nothing_done {text} = record { done = []; wrote = wrote_none; says = sym (prepend_nothing text) }
 
-pub some_done : {text : Option (List ℕ)} {d : List ℕ} {p : Pen} {d' : List ℕ} {q : Pen} {t : List ℕ} {rest : Option (List ℕ)}
-    {d'' : List ℕ} {r : Pen} → Midway text d p d' q (prepend t rest) → Wrote d' q t d'' r → Midway text d p d'' r rest
+pub some_done : {text : Maybe (List ℕ)} {p q : Pen} {t : List ℕ} {rest : Maybe (List ℕ)} {r : Pen} → Midway text p q (prepend t rest)
+    → Wrote q t r → Midway text p r rest
 some_done {t = t} {rest} m w = record { done = m.done ++ t; wrote = m.wrote ⨾ w; says = m.says ∙ prepend_twice m.done t rest }
 
-pub left_says : {text : Option (List ℕ)} {d : List ℕ} {p : Pen} {d' : List ℕ} {q : Pen} {rest more : Option (List ℕ)}
-    → Midway text d p d' q rest → rest ≡ more → Midway text d p d' q more
-left_says {text} {d} {p} {d'} {q} m e = subst (λ (o : Option (List ℕ)). Midway text d p d' q o) e m
+pub left_says : {text : Maybe (List ℕ)} {p q : Pen} {rest more : Maybe (List ℕ)} → Midway text p q rest → rest ≡ more
+    → Midway text p q more
+left_says {text} {p} {q} m e = subst (λ (o : Maybe (List ℕ)). Midway text p q o) e m
 
-pub all_done : {text : Option (List ℕ)} {d : List ℕ} {p : Pen} {d' : List ℕ} {q : Pen} → Midway text d p d' q (some [])
-    → Value text d p d' q
+pub all_done : {text : Maybe (List ℕ)} {p q : Pen} → Midway text p q (some []) → Value text p q
 all_done m = record {
   value = m.done ++ [];
   says = m.says ∙ prepend_some m.done [];
   wrote = wrote_as m.wrote (sym (append-nil m.done));
 }
 
-pub none_left : {text : Option (List ℕ)} {d : List ℕ} {p : Pen} {d' : List ℕ} {q : Pen} → Midway text d p d' q none
-    → text ≡ none
+pub none_left : {text : Maybe (List ℕ)} {p q : Pen} → Midway text p q none → text ≡ none
 unfolding prepend
 none_left m = m.says
 

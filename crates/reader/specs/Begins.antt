@@ -1,9 +1,7 @@
 -- What reading a literal answers, by how the text begins.
 use Rattle.std.specs.Prelude.{◌≡◌, Bool, true, false, not, List, [], ◌∷◌, ℕ, ◌<◌, length, drop, get_or}
-use Rattle.std.proofs.Math.Path.{refl}
-use Rattle.std.proofs.Common.{sym, ◌∙◌, not-suc-le-zero, arith}
+use Rattle.std.proofs.Common.{eq-eqb, ne_eqb, refl, sym, ◌∙◌, not-suc-le-zero, arith}
 use Rattle.std.proofs.Math.Option.{none}
-use borrow.Author.Tests.{eq-eqb, ne_eqb}
 use Rattle.base.specs.Bools.{not_true, not_false, clash}
 use Rattle.meaning.specs.Ascii.{quote}
 use Rattle.meaning.specs.Utf8.{utf8}

@@ -1,760 +1,434 @@
 // Every node below a definition, printed as serialize.rs prints it. One walk over children, `each`, decides by kind.
 #![tactic(auto)]
 
-ghost use Rattle.std.specs.Prelude.{◌≡◌, ◌∷◌, [], ◌++◌, ℕ, ◌+◌, ◌≤◌, ◌<◌};
+ghost use Rattle.std.specs.Prelude.{◌∷◌, [], ◌++◌, ℕ, ◌+◌, ◌<◌};
 ghost use Rattle.meaning.specs.Ascii.{ascii};
-ghost use Rattle.meaning.specs.Kind;
-ghost use Rattle.meaning.specs.Settings.{on_single_line};
 ghost use Rattle.meaning.specs.Table.{kind_at, tree_at};
 ghost use Rattle.meaning.specs.Children.{a, rest, run, past};
-ghost use Rattle.meaning.specs.Rules.{comma_separated, parenthesized, single_line, single_line_unless_marked, argument_definitions, default_value, optional_braces, rule_of};
+ghost use Rattle.meaning.specs.Rules.{comma_separated, optional, single_line, single_line_unless_marked, argument_definitions, default_value, optional_braces, rule_of};
 ghost use Rattle.meaning.specs.Layout.{child_in, first_said, each, in_braces, in_commas, node_text};
 ghost use Rattle.pen.specs.Wrote.{Wrote};
+ghost use Rattle.settings.specs.Said.{said};
 ghost use Rattle.layout.specs.Classes.{meant};
-ghost use Rattle.layout.specs.Kids.{kids};
-ghost use Rattle.layout.specs.Written.{under, gap_text};
+ghost use Rattle.layout.specs.Written.{gap_text};
 ghost use Rattle.layout.specs.Jobs.{Job, Jobs};
 ghost use Rattle.layout.specs.Did.{Walked, Did};
+ghost use Rattle.layout.specs.Read.{words, pool, ahead};
 ghost use Rattle.serialize.specs.Parts.{Parts};
 
-use layout::{Class, Gap, State, Walk};
-use meaning::NodeNumber;
+use layout::{Children, Class, Gap, Printer};
+use meaning::{Kind, NodeNumber};
 use pen::Pen;
-
-const DESCRIPTION: usize = 18;
-
-const DIRECTIVE: usize = 19;
-
-const ARGUMENT: usize = 20;
-
-const INPUT_VALUE_DEFINITION: usize = 22;
-
-const OBJECT_FIELD: usize = 44;
+use settings::Settings;
 
 // ---- lists of children
 
 // The next child, whatever its kind.
 #[cycle(tree)]
-pub fn one(
-    words: &[u32],
-    pool: &[u8],
-    table: &[u8; 256],
-    to: NodeNumber,
-    depth: usize,
-    prefix: &[u8],
-    state: State,
-    out: &mut [u8],
-    at: Walk,
-) -> Walk
-    requires { Jobs table.now words.now pool.now at.node.0 to.0 depth state.level }
-    ensures { Walked words.now pool.now to.0 (first_said (under state prefix.now) (kids words.now pool.now at.node.0 to.0)) (rest child_in (kids words.now pool.now at.node.0 to.0)) out.old at out.new result }
+pub fn one(printer: &Printer, children: &mut Children, settings: &Settings, pen: &mut Pen)
+    requires { Jobs (words printer.now) (pool printer.now) children.old settings.now.level }
+    ensures { Walked (words printer.now) (pool printer.now) (first_said (said settings.now) (ahead printer.now children.old)) (rest child_in (ahead printer.now children.old)) children.old pen.old children.new pen.new }
 {
-    let node = at.node;
-    if to.0 <= node.0 {
-        return at;
+    if children.next.0 < children.end.0 {
+        serialize_impl(printer, children.next, settings, pen);
+        children.pass(&printer.table);
     }
-    let pen = serialize_impl(words, pool, table, node, depth, prefix, state, out, at.pen);
-    layout::past(
-        words,
-        Walk {
-            node: node,
-            pen: pen,
-        },
-    )
 }
 
 // The next children of the class, each after the gap.
 #[cycle(tree)]
 pub fn each(
-    words: &[u32],
-    pool: &[u8],
-    table: &[u8; 256],
+    printer: &Printer,
     class: Class,
     gap: Gap,
-    to: NodeNumber,
-    depth: usize,
-    prefix: &[u8],
-    state: State,
-    out: &mut [u8],
-    at: Walk,
-) -> Walk
-    requires { Jobs table.now words.now pool.now at.node.0 to.0 depth state.level }
-    ensures { Walked words.now pool.now to.0 (each (gap_text gap (under state prefix.now)) (under state prefix.now) (run child_in (meant class) (kids words.now pool.now at.node.0 to.0))) (past child_in (meant class) (kids words.now pool.now at.node.0 to.0)) out.old at out.new result }
+    children: &mut Children,
+    settings: &Settings,
+    pen: &mut Pen,
+)
+    requires { Jobs (words printer.now) (pool printer.now) children.old settings.now.level }
+    ensures { Walked (words printer.now) (pool printer.now) (each (gap_text gap (said settings.now)) (said settings.now) (run child_in (meant class) (ahead printer.now children.old))) (past child_in (meant class) (ahead printer.now children.old)) children.old pen.old children.new pen.new }
 {
-    let mut w = at;
-    while layout::is_next(words, class, w.node, to) {
-        let a = layout::write_gap(gap, prefix, state, out, w);
-        w = one(words, pool, table, to, depth, prefix, state, out, a);
+    // A `while`: `one` goes on to the next child, which counts nothing.
+    while children.is_next(&printer.table, class) {
+        gap.write(settings, pen);
+        one(printer, children, settings, pen);
     }
-    w
 }
 
 // `[a, b, c]` or, with breaks on, each on a line of its own with a comma after the last: `comma_separated` of serialize.rs.
 #[cycle(tree)]
 fn commas(
-    words: &[u32],
-    pool: &[u8],
-    table: &[u8; 256],
+    printer: &Printer,
     left: &[u8],
     right: &[u8],
     class: Class,
-    to: NodeNumber,
-    depth: usize,
-    prefix: &[u8],
-    state: State,
-    out: &mut [u8],
-    at: Walk,
-) -> Walk
-    requires { Jobs table.now words.now pool.now at.node.0 to.0 depth (state.level + 1) }
-    ensures { Walked words.now pool.now to.0 (in_commas (under state prefix.now) left.now right.now (run child_in (meant class) (kids words.now pool.now at.node.0 to.0))) (past child_in (meant class) (kids words.now pool.now at.node.0 to.0)) out.old at out.new result }
+    children: &mut Children,
+    settings: &Settings,
+    pen: &mut Pen,
+)
+    requires { Jobs (words printer.now) (pool printer.now) children.old (settings.now.level + 1) }
+    ensures { Walked (words printer.now) (pool printer.now) (in_commas (said settings.now) left.now right.now (run child_in (meant class) (ahead printer.now children.old))) (past child_in (meant class) (ahead printer.now children.old)) children.old pen.old children.new pen.new }
 {
-    let a = layout::token(out, at, left);
-    if layout::is_next(words, class, a.node, to) {
-        let inner = layout::deeper(state);
-        let b = layout::new_line(prefix, inner, out, a);
-        let c = one(words, pool, table, to, depth, prefix, inner, out, b);
-        let d = each(
-            words,
-            pool,
-            table,
-            class,
-            Gap::Comma,
-            to,
-            depth,
-            prefix,
-            inner,
-            out,
-            c,
-        );
-        let e = layout::trailing_comma(state, out, d);
-        let f = layout::new_line(prefix, state, out, e);
-        return layout::token(out, f, right);
+    pen.write(left);
+    if children.is_next(&printer.table, class) {
+        let inner = settings.deeper();
+        inner.new_line(pen);
+        one(printer, children, &inner, pen);
+        each(printer, class, Gap::Comma, children, &inner, pen);
+        layout::trailing_comma(settings, pen);
+        settings.new_line(pen);
     }
-    layout::token(out, a, right)
+    pen.write(right);
 }
 
 // `{ a b c }` or, with breaks on, each on a line of its own: `curly_brackets_space_separated` of serialize.rs.
 #[cycle(tree)]
 pub fn curly(
-    words: &[u32],
-    pool: &[u8],
-    table: &[u8; 256],
+    printer: &Printer,
     class: Class,
-    to: NodeNumber,
-    depth: usize,
-    prefix: &[u8],
-    state: State,
-    out: &mut [u8],
-    at: Walk,
-) -> Walk
-    requires { Jobs table.now words.now pool.now at.node.0 to.0 depth (state.level + 1) }
-    ensures { Walked words.now pool.now to.0 (in_braces (under state prefix.now) (run child_in (meant class) (kids words.now pool.now at.node.0 to.0))) (past child_in (meant class) (kids words.now pool.now at.node.0 to.0)) out.old at out.new result }
+    children: &mut Children,
+    settings: &Settings,
+    pen: &mut Pen,
+)
+    requires { Jobs (words printer.now) (pool printer.now) children.old (settings.now.level + 1) }
+    ensures { Walked (words printer.now) (pool printer.now) (in_braces (said settings.now) (run child_in (meant class) (ahead printer.now children.old))) (past child_in (meant class) (ahead printer.now children.old)) children.old pen.old children.new pen.new }
 {
-    let a = layout::token(out, at, b"{");
-    if layout::is_next(words, class, a.node, to) {
-        let b = each(
-            words,
-            pool,
-            table,
-            class,
-            Gap::Line,
-            to,
-            depth,
-            prefix,
-            layout::deeper(state),
-            out,
-            a,
-        );
-        let c = layout::new_line_or_space(prefix, state, out, b);
-        return layout::token(out, c, b"}");
+    pen.write(b"{");
+    if children.is_next(&printer.table, class) {
+        each(printer, class, Gap::Line, children, &settings.deeper(), pen);
+        settings.new_line_or_space(pen);
     }
-    layout::token(out, a, b"}")
+    pen.write(b"}");
 }
 
 // A space and the children of the class in braces, where there are any.
 #[cycle(tree)]
 pub fn opt_braces(
-    words: &[u32],
-    pool: &[u8],
-    table: &[u8; 256],
+    printer: &Printer,
     class: Class,
-    to: NodeNumber,
-    depth: usize,
-    prefix: &[u8],
-    state: State,
-    out: &mut [u8],
-    at: Walk,
-) -> Walk
-    requires { Jobs table.now words.now pool.now at.node.0 to.0 depth (state.level + 1) }
-    ensures { (n : ℕ) → Did words.now pool.now (under state prefix.now) n to.0 (optional_braces (meant class)) out.old at out.new result }
+    children: &mut Children,
+    settings: &Settings,
+    pen: &mut Pen,
+)
+    requires { Jobs (words printer.now) (pool printer.now) children.old (settings.now.level + 1) }
+    ensures { (n : ℕ) → Did (words printer.now) (pool printer.now) (said settings.now) n (optional_braces (meant class)) children.old pen.old children.new pen.new }
 {
-    if layout::is_next(words, class, at.node, to) {
-        let a = layout::token(out, at, b" ");
-        return curly(words, pool, table, class, to, depth, prefix, state, out, a);
+    if children.is_next(&printer.table, class) {
+        pen.write(b" ");
+        curly(printer, class, children, settings, pen);
     }
-    at
 }
 
 // Arguments or variables in parentheses, on one line, where there are any.
 #[cycle(tree)]
 pub fn arguments(
-    words: &[u32],
-    pool: &[u8],
-    table: &[u8; 256],
-    kind: usize,
-    to: NodeNumber,
-    depth: usize,
-    prefix: &[u8],
-    state: State,
-    out: &mut [u8],
-    at: Walk,
-) -> Walk
-    requires { Jobs table.now words.now pool.now at.node.0 to.0 depth (state.level + 1) }
-    ensures { (n : ℕ) → Did words.now pool.now (under state prefix.now) n to.0 (parenthesized single_line kind) out.old at out.new result }
+    printer: &Printer,
+    class: Class,
+    children: &mut Children,
+    settings: &Settings,
+    pen: &mut Pen,
+)
+    requires { Jobs (words printer.now) (pool printer.now) children.old (settings.now.level + 1) }
+    ensures { (n : ℕ) → Did (words printer.now) (pool printer.now) (said settings.now) n (optional (meant class) (comma_separated single_line (ascii "(") (ascii ")") (meant class) ∷ [])) children.old pen.old children.new pen.new }
 {
-    if layout::is_next(words, Class::Kind(kind), at.node, to) {
-        return commas(
-            words,
-            pool,
-            table,
-            b"(",
-            b")",
-            Class::Kind(kind),
-            to,
-            depth,
-            prefix,
-            layout::on_single_line(state),
-            out,
-            at,
-        );
+    if children.is_next(&printer.table, class) {
+        let line = settings.on_single_line();
+        commas(printer, b"(", b")", class, children, &line, pen);
     }
-    at
 }
 
 // The directives, each after a space. Mostly there is none: the test stands apart from the walk, so that a caller is spared the call.
 #[cycle(tree)]
-pub fn directives(
-    words: &[u32],
-    pool: &[u8],
-    table: &[u8; 256],
-    to: NodeNumber,
-    depth: usize,
-    prefix: &[u8],
-    state: State,
-    out: &mut [u8],
-    at: Walk,
-) -> Walk
-    requires { Jobs table.now words.now pool.now at.node.0 to.0 depth state.level }
-    ensures { Walked words.now pool.now to.0 (each (ascii " ") (under state prefix.now) (run child_in (a 19) (kids words.now pool.now at.node.0 to.0))) (past child_in (a 19) (kids words.now pool.now at.node.0 to.0)) out.old at out.new result }
+pub fn directives(printer: &Printer, children: &mut Children, settings: &Settings, pen: &mut Pen)
+    requires { Jobs (words printer.now) (pool printer.now) children.old settings.now.level }
+    ensures { Walked (words printer.now) (pool printer.now) (each (ascii " ") (said settings.now) (run child_in (a 19) (ahead printer.now children.old))) (past child_in (a 19) (ahead printer.now children.old)) children.old pen.old children.new pen.new }
 {
-    let class = Class::Kind(DIRECTIVE);
-    if layout::is_next(words, class, at.node, to) {
-        return each(
-            words,
-            pool,
-            table,
-            class,
-            Gap::Space,
-            to,
-            depth,
-            prefix,
-            state,
-            out,
-            at,
-        );
+    let class = Class::Kind(Kind::Directive);
+    if children.is_next(&printer.table, class) {
+        each(printer, class, Gap::Space, children, settings, pen);
     }
-    at
 }
 
 // Argument definitions in parentheses, on one line unless one has a description or a directive.
 #[cycle(tree)]
-fn signature(
-    words: &[u32],
-    pool: &[u8],
-    table: &[u8; 256],
-    to: NodeNumber,
-    depth: usize,
-    prefix: &[u8],
-    state: State,
-    out: &mut [u8],
-    at: Walk,
-) -> Walk
-    requires { Jobs table.now words.now pool.now at.node.0 to.0 depth (state.level + 1) }
-    ensures { (n : ℕ) → Did words.now pool.now (under state prefix.now) n to.0 (comma_separated single_line_unless_marked (ascii "(") (ascii ")") (a 22) ∷ []) out.old at out.new result }
+fn signature(printer: &Printer, children: &mut Children, settings: &Settings, pen: &mut Pen)
+    requires { Jobs (words printer.now) (pool printer.now) children.old (settings.now.level + 1) }
+    ensures { (n : ℕ) → Did (words printer.now) (pool printer.now) (said settings.now) n (comma_separated single_line_unless_marked (ascii "(") (ascii ")") (a 22) ∷ []) children.old pen.old children.new pen.new }
 {
-    let marked = layout::any_marked(words, pool, at.node, to);
-    let lines = layout::single_line_unless(marked, state);
-    let class = Class::Kind(INPUT_VALUE_DEFINITION);
-    commas(
-        words, pool, table, b"(", b")", class, to, depth, prefix, lines, out, at,
-    )
+    let marked = children.any_marked(&printer.table);
+    let lines = layout::single_line_unless(marked, settings);
+    let class = Class::Kind(Kind::InputValueDefinition);
+    commas(printer, b"(", b")", class, children, &lines, pen);
 }
 
 // The same, where there are any.
 #[cycle(tree)]
-pub fn arguments_def(
-    words: &[u32],
-    pool: &[u8],
-    table: &[u8; 256],
-    to: NodeNumber,
-    depth: usize,
-    prefix: &[u8],
-    state: State,
-    out: &mut [u8],
-    at: Walk,
-) -> Walk
-    requires { Jobs table.now words.now pool.now at.node.0 to.0 depth (state.level + 1) }
-    ensures { (n : ℕ) → Did words.now pool.now (under state prefix.now) n to.0 argument_definitions out.old at out.new result }
+pub fn arguments_def(printer: &Printer, children: &mut Children, settings: &Settings, pen: &mut Pen)
+    requires { Jobs (words printer.now) (pool printer.now) children.old (settings.now.level + 1) }
+    ensures { (n : ℕ) → Did (words printer.now) (pool printer.now) (said settings.now) n argument_definitions children.old pen.old children.new pen.new }
 {
-    if layout::is_next(words, Class::Kind(INPUT_VALUE_DEFINITION), at.node, to) {
-        return signature(words, pool, table, to, depth, prefix, state, out, at);
+    if children.is_next(&printer.table, Class::Kind(Kind::InputValueDefinition)) {
+        signature(printer, children, settings, pen);
     }
-    at
 }
 
 // ---- a node of each kind
 
 // ` = value`, where there is a value.
 #[cycle(tree)]
-fn default(
-    words: &[u32],
-    pool: &[u8],
-    table: &[u8; 256],
-    to: NodeNumber,
-    depth: usize,
-    prefix: &[u8],
-    state: State,
-    out: &mut [u8],
-    at: Walk,
-) -> Walk
-    requires { Jobs table.now words.now pool.now at.node.0 to.0 depth state.level }
-    ensures { (n : ℕ) → Did words.now pool.now (under state prefix.now) n to.0 default_value out.old at out.new result }
+fn default(printer: &Printer, children: &mut Children, settings: &Settings, pen: &mut Pen)
+    requires { Jobs (words printer.now) (pool printer.now) children.old settings.now.level }
+    ensures { (n : ℕ) → Did (words printer.now) (pool printer.now) (said settings.now) n default_value children.old pen.old children.new pen.new }
 {
-    if layout::is_next(words, Class::Value, at.node, to) {
-        let a = layout::token(out, at, b" = ");
-        return one(words, pool, table, to, depth, prefix, state, out, a);
+    if children.is_next(&printer.table, Class::Value) {
+        pen.write(b" = ");
+        one(printer, children, settings, pen);
     }
-    at
 }
 
 #[cycle(tree)]
 fn directive(
-    words: &[u32],
-    pool: &[u8],
-    table: &[u8; 256],
+    printer: &Printer,
     node: NodeNumber,
-    to: NodeNumber,
-    depth: usize,
-    prefix: &[u8],
-    state: State,
-    out: &mut [u8],
-    at: Walk,
-) -> Walk
-    requires { Parts table.now words.now pool.now node.0 at.node.0 to.0 depth state.level }
-    ensures { Did words.now pool.now (under state prefix.now) node.0 to.0 (rule_of 19) out.old at out.new result }
+    children: &mut Children,
+    settings: &Settings,
+    pen: &mut Pen,
+)
+    requires { Parts (words printer.now) (pool printer.now) node.0 children.old settings.now.level }
+    ensures { Did (words printer.now) (pool printer.now) (said settings.now) node.0 (rule_of 19) children.old pen.old children.new pen.new }
 {
-    let a = layout::token(out, at, b"@");
-    let b = layout::name(words, pool, node, out, a);
+    pen.write(b"@");
+    layout::name(&printer.table, node, pen);
     arguments(
-        words, pool, table, ARGUMENT, to, depth, prefix, state, out, b,
-    )
+        printer,
+        Class::Kind(Kind::Argument),
+        children,
+        settings,
+        pen,
+    );
 }
 
 // An argument, or a field of an object value.
 #[cycle(tree)]
 fn argument(
-    words: &[u32],
-    pool: &[u8],
-    table: &[u8; 256],
+    printer: &Printer,
     node: NodeNumber,
-    to: NodeNumber,
-    depth: usize,
-    prefix: &[u8],
-    state: State,
-    out: &mut [u8],
-    at: Walk,
-) -> Walk
-    requires { Parts table.now words.now pool.now node.0 at.node.0 to.0 depth state.level }
-    ensures { Did words.now pool.now (under state prefix.now) node.0 to.0 (rule_of 20) out.old at out.new result }
+    children: &mut Children,
+    settings: &Settings,
+    pen: &mut Pen,
+)
+    requires { Parts (words printer.now) (pool printer.now) node.0 children.old settings.now.level }
+    ensures { Did (words printer.now) (pool printer.now) (said settings.now) node.0 (rule_of 20) children.old pen.old children.new pen.new }
 {
-    let a = layout::name(words, pool, node, out, at);
-    let b = layout::token(out, a, b": ");
-    one(words, pool, table, to, depth, prefix, state, out, b)
+    layout::name(&printer.table, node, pen);
+    pen.write(b": ");
+    one(printer, children, settings, pen);
 }
 
 #[cycle(tree)]
 fn variable(
-    words: &[u32],
-    pool: &[u8],
-    table: &[u8; 256],
+    printer: &Printer,
     node: NodeNumber,
-    to: NodeNumber,
-    depth: usize,
-    prefix: &[u8],
-    state: State,
-    out: &mut [u8],
-    at: Walk,
-) -> Walk
-    requires { Parts table.now words.now pool.now node.0 at.node.0 to.0 depth state.level }
-    ensures { Did words.now pool.now (under state prefix.now) node.0 to.0 (rule_of 21) out.old at out.new result }
+    children: &mut Children,
+    settings: &Settings,
+    pen: &mut Pen,
+)
+    requires { Parts (words printer.now) (pool printer.now) node.0 children.old settings.now.level }
+    ensures { Did (words printer.now) (pool printer.now) (said settings.now) node.0 (rule_of 21) children.old pen.old children.new pen.new }
 {
-    let a = layout::token(out, at, b"$");
-    let b = layout::name(words, pool, node, out, a);
-    let c = layout::token(out, b, b": ");
-    let d = one(words, pool, table, to, depth, prefix, state, out, c);
-    let e = default(words, pool, table, to, depth, prefix, state, out, d);
-    directives(words, pool, table, to, depth, prefix, state, out, e)
+    pen.write(b"$");
+    layout::name(&printer.table, node, pen);
+    pen.write(b": ");
+    one(printer, children, settings, pen);
+    default(printer, children, settings, pen);
+    directives(printer, children, settings, pen);
 }
 
 // An InputValueDefinition.
 #[cycle(tree)]
 fn input(
-    words: &[u32],
-    pool: &[u8],
-    table: &[u8; 256],
+    printer: &Printer,
     node: NodeNumber,
-    to: NodeNumber,
-    depth: usize,
-    prefix: &[u8],
-    state: State,
-    out: &mut [u8],
-    at: Walk,
-) -> Walk
-    requires { Parts table.now words.now pool.now node.0 at.node.0 to.0 depth state.level }
-    ensures { Did words.now pool.now (under state prefix.now) node.0 to.0 (rule_of 22) out.old at out.new result }
+    children: &mut Children,
+    settings: &Settings,
+    pen: &mut Pen,
+)
+    requires { Parts (words printer.now) (pool printer.now) node.0 children.old settings.now.level }
+    ensures { Did (words printer.now) (pool printer.now) (said settings.now) node.0 (rule_of 22) children.old pen.old children.new pen.new }
 {
-    let a = leaves::serialize_description(words, pool, table, to, prefix, state, out, at);
-    let b = layout::name(words, pool, node, out, a);
-    let c = layout::token(out, b, b": ");
-    let d = one(words, pool, table, to, depth, prefix, state, out, c);
-    let e = default(words, pool, table, to, depth, prefix, state, out, d);
-    directives(words, pool, table, to, depth, prefix, state, out, e)
+    leaves::serialize_description(&printer.table, printer.classes, children, settings, pen);
+    layout::name(&printer.table, node, pen);
+    pen.write(b": ");
+    one(printer, children, settings, pen);
+    default(printer, children, settings, pen);
+    directives(printer, children, settings, pen);
 }
 
 // A FieldDefinition.
 #[cycle(tree)]
 fn field_def(
-    words: &[u32],
-    pool: &[u8],
-    table: &[u8; 256],
+    printer: &Printer,
     node: NodeNumber,
-    to: NodeNumber,
-    depth: usize,
-    prefix: &[u8],
-    state: State,
-    out: &mut [u8],
-    at: Walk,
-) -> Walk
-    requires { Parts table.now words.now pool.now node.0 at.node.0 to.0 depth state.level }
-    ensures { Did words.now pool.now (under state prefix.now) node.0 to.0 (rule_of 23) out.old at out.new result }
+    children: &mut Children,
+    settings: &Settings,
+    pen: &mut Pen,
+)
+    requires { Parts (words printer.now) (pool printer.now) node.0 children.old settings.now.level }
+    ensures { Did (words printer.now) (pool printer.now) (said settings.now) node.0 (rule_of 23) children.old pen.old children.new pen.new }
 {
-    let a = leaves::serialize_description(words, pool, table, to, prefix, state, out, at);
-    let b = layout::name(words, pool, node, out, a);
-    let c = arguments_def(words, pool, table, to, depth, prefix, state, out, b);
-    let d = layout::token(out, c, b": ");
-    let e = one(words, pool, table, to, depth, prefix, state, out, d);
-    directives(words, pool, table, to, depth, prefix, state, out, e)
+    leaves::serialize_description(&printer.table, printer.classes, children, settings, pen);
+    layout::name(&printer.table, node, pen);
+    arguments_def(printer, children, settings, pen);
+    pen.write(b": ");
+    one(printer, children, settings, pen);
+    directives(printer, children, settings, pen);
 }
 
 #[cycle(tree)]
 fn enum_value(
-    words: &[u32],
-    pool: &[u8],
-    table: &[u8; 256],
+    printer: &Printer,
     node: NodeNumber,
-    to: NodeNumber,
-    depth: usize,
-    prefix: &[u8],
-    state: State,
-    out: &mut [u8],
-    at: Walk,
-) -> Walk
-    requires { Parts table.now words.now pool.now node.0 at.node.0 to.0 depth state.level }
-    ensures { Did words.now pool.now (under state prefix.now) node.0 to.0 (rule_of 24) out.old at out.new result }
+    children: &mut Children,
+    settings: &Settings,
+    pen: &mut Pen,
+)
+    requires { Parts (words printer.now) (pool printer.now) node.0 children.old settings.now.level }
+    ensures { Did (words printer.now) (pool printer.now) (said settings.now) node.0 (rule_of 24) children.old pen.old children.new pen.new }
 {
-    let a = leaves::serialize_description(words, pool, table, to, prefix, state, out, at);
-    let b = layout::name(words, pool, node, out, a);
-    directives(words, pool, table, to, depth, prefix, state, out, b)
+    leaves::serialize_description(&printer.table, printer.classes, children, settings, pen);
+    layout::name(&printer.table, node, pen);
+    directives(printer, children, settings, pen);
 }
 
 #[cycle(tree)]
 fn field(
-    words: &[u32],
-    pool: &[u8],
-    table: &[u8; 256],
+    printer: &Printer,
     node: NodeNumber,
-    to: NodeNumber,
-    depth: usize,
-    prefix: &[u8],
-    state: State,
-    out: &mut [u8],
-    at: Walk,
-) -> Walk
-    requires { Parts table.now words.now pool.now node.0 at.node.0 to.0 depth state.level }
-    ensures { Did words.now pool.now (under state prefix.now) node.0 to.0 (rule_of 29) out.old at out.new result }
+    children: &mut Children,
+    settings: &Settings,
+    pen: &mut Pen,
+)
+    requires { Parts (words printer.now) (pool printer.now) node.0 children.old settings.now.level }
+    ensures { Did (words printer.now) (pool printer.now) (said settings.now) node.0 (rule_of 29) children.old pen.old children.new pen.new }
 {
-    let a = leaves::alias(words, pool, to, out, at);
-    let b = layout::name(words, pool, node, out, a);
-    let c = arguments(
-        words, pool, table, ARGUMENT, to, depth, prefix, state, out, b,
+    leaves::alias(&printer.table, children, pen);
+    layout::name(&printer.table, node, pen);
+    arguments(
+        printer,
+        Class::Kind(Kind::Argument),
+        children,
+        settings,
+        pen,
     );
-    let d = directives(words, pool, table, to, depth, prefix, state, out, c);
-    opt_braces(
-        words,
-        pool,
-        table,
-        Class::Selection,
-        to,
-        depth,
-        prefix,
-        state,
-        out,
-        d,
-    )
+    directives(printer, children, settings, pen);
+    opt_braces(printer, Class::Selection, children, settings, pen);
 }
 
 #[cycle(tree)]
 fn spread(
-    words: &[u32],
-    pool: &[u8],
-    table: &[u8; 256],
+    printer: &Printer,
     node: NodeNumber,
-    to: NodeNumber,
-    depth: usize,
-    prefix: &[u8],
-    state: State,
-    out: &mut [u8],
-    at: Walk,
-) -> Walk
-    requires { Parts table.now words.now pool.now node.0 at.node.0 to.0 depth state.level }
-    ensures { Did words.now pool.now (under state prefix.now) node.0 to.0 (rule_of 31) out.old at out.new result }
+    children: &mut Children,
+    settings: &Settings,
+    pen: &mut Pen,
+)
+    requires { Parts (words printer.now) (pool printer.now) node.0 children.old settings.now.level }
+    ensures { Did (words printer.now) (pool printer.now) (said settings.now) node.0 (rule_of 31) children.old pen.old children.new pen.new }
 {
-    let a = layout::token(out, at, b"...");
-    let b = layout::name(words, pool, node, out, a);
-    directives(words, pool, table, to, depth, prefix, state, out, b)
+    pen.write(b"...");
+    layout::name(&printer.table, node, pen);
+    directives(printer, children, settings, pen);
 }
 
 #[cycle(tree)]
 fn inline(
-    words: &[u32],
-    pool: &[u8],
-    table: &[u8; 256],
+    printer: &Printer,
     node: NodeNumber,
-    to: NodeNumber,
-    depth: usize,
-    prefix: &[u8],
-    state: State,
-    out: &mut [u8],
-    at: Walk,
-) -> Walk
-    requires { Parts table.now words.now pool.now node.0 at.node.0 to.0 depth state.level }
-    ensures { Did words.now pool.now (under state prefix.now) node.0 to.0 (rule_of 32) out.old at out.new result }
+    children: &mut Children,
+    settings: &Settings,
+    pen: &mut Pen,
+)
+    requires { Parts (words printer.now) (pool printer.now) node.0 children.old settings.now.level }
+    ensures { Did (words printer.now) (pool printer.now) (said settings.now) node.0 (rule_of 32) children.old pen.old children.new pen.new }
 {
-    let a = layout::token(out, at, b"...");
-    let b = leaves::if_named(words, pool, node, b" on ", out, a);
-    let c = directives(words, pool, table, to, depth, prefix, state, out, b);
-    let d = layout::token(out, c, b" ");
-    curly(
-        words,
-        pool,
-        table,
-        Class::Selection,
-        to,
-        depth,
-        prefix,
-        state,
-        out,
-        d,
-    )
+    pen.write(b"...");
+    leaves::if_named(&printer.table, node, b" on ", pen);
+    directives(printer, children, settings, pen);
+    pen.write(b" ");
+    curly(printer, Class::Selection, children, settings, pen);
 }
 
 #[cycle(tree)]
-fn list(
-    words: &[u32],
-    pool: &[u8],
-    table: &[u8; 256],
-    to: NodeNumber,
-    depth: usize,
-    prefix: &[u8],
-    state: State,
-    out: &mut [u8],
-    at: Walk,
-) -> Walk
-    requires { Jobs table.now words.now pool.now at.node.0 to.0 depth (state.level + 1) }
-    ensures { (n : ℕ) → Did words.now pool.now (under state prefix.now) n to.0 (rule_of 42) out.old at out.new result }
+fn list(printer: &Printer, children: &mut Children, settings: &Settings, pen: &mut Pen)
+    requires { Jobs (words printer.now) (pool printer.now) children.old (settings.now.level + 1) }
+    ensures { (n : ℕ) → Did (words printer.now) (pool printer.now) (said settings.now) n (rule_of 42) children.old pen.old children.new pen.new }
 {
-    commas(
-        words,
-        pool,
-        table,
-        b"[",
-        b"]",
-        Class::Value,
-        to,
-        depth,
-        prefix,
-        state,
-        out,
-        at,
-    )
+    commas(printer, b"[", b"]", Class::Value, children, settings, pen);
 }
 
 #[cycle(tree)]
-fn object(
-    words: &[u32],
-    pool: &[u8],
-    table: &[u8; 256],
-    to: NodeNumber,
-    depth: usize,
-    prefix: &[u8],
-    state: State,
-    out: &mut [u8],
-    at: Walk,
-) -> Walk
-    requires { Jobs table.now words.now pool.now at.node.0 to.0 depth (state.level + 1) }
-    ensures { (n : ℕ) → Did words.now pool.now (under state prefix.now) n to.0 (rule_of 43) out.old at out.new result }
+fn object(printer: &Printer, children: &mut Children, settings: &Settings, pen: &mut Pen)
+    requires { Jobs (words printer.now) (pool printer.now) children.old (settings.now.level + 1) }
+    ensures { (n : ℕ) → Did (words printer.now) (pool printer.now) (said settings.now) n (rule_of 43) children.old pen.old children.new pen.new }
 {
-    commas(
-        words,
-        pool,
-        table,
-        b"{",
-        b"}",
-        Class::Kind(OBJECT_FIELD),
-        to,
-        depth,
-        prefix,
-        state,
-        out,
-        at,
-    )
-}
-
-#[cycle(tree)]
-fn value(
-    words: &[u32],
-    pool: &[u8],
-    table: &[u8; 256],
-    kind: usize,
-    node: NodeNumber,
-    to: NodeNumber,
-    depth: usize,
-    prefix: &[u8],
-    state: State,
-    out: &mut [u8],
-    at: Walk,
-) -> Walk
-    requires { Parts table.now words.now pool.now node.0 at.node.0 to.0 depth state.level × (35 ≤ kind) × (kind ≤ 43) }
-    ensures { Did words.now pool.now (under state prefix.now) node.0 to.0 (rule_of kind) out.old at out.new result }
-{
-    match kind {
-        35 => layout::token(out, at, b"null"),
-        36 => leaves::boolean(words, node, out, at),
-        37 => layout::name(words, pool, node, out, at),
-        38 => leaves::string_value(words, pool, table, false, node, prefix, state, out, at),
-        39 => leaves::variable_value(words, pool, node, out, at),
-        40 => layout::name(words, pool, node, out, at),
-        41 => layout::name(words, pool, node, out, at),
-        42 => list(words, pool, table, to, depth, prefix, state, out, at),
-        _ => object(words, pool, table, to, depth, prefix, state, out, at),
-    }
+    let class = Class::Kind(Kind::ObjectField);
+    commas(printer, b"{", b"}", class, children, settings, pen);
 }
 
 // Any node below a definition: the parts of its kind's rule.
 #[cycle(tree)]
-pub fn serialize_impl(
-    words: &[u32],
-    pool: &[u8],
-    table: &[u8; 256],
-    node: NodeNumber,
-    depth: usize,
-    prefix: &[u8],
-    state: State,
-    out: &mut [u8],
-    pen: Pen,
-) -> Pen
-    requires { Job table.now words.now pool.now node.0 depth state.level × (17 < kind_at words.now node.0) }
-    ensures { Wrote out.old pen (node_text (tree_at words.now pool.now node.0) (under state prefix.now)) out.new result }
+pub fn serialize_impl(printer: &Printer, node: NodeNumber, settings: &Settings, pen: &mut Pen)
+    requires job { Job (words printer.now) (pool printer.now) node.0 settings.now.level }
+    requires below { 17 < kind_at (words printer.now) node.0 }
+    ensures { Wrote pen.old (node_text (tree_at (words printer.now) (pool printer.now) node.0) (said settings.now)) pen.new }
 {
-    let kind = table::kind(words, node);
-    let to = NodeNumber(table::end(words, node));
-    let below = depth - 1;
-    let at = Walk {
-        node: NodeNumber(node.0 + 1),
-        pen: pen,
+    // a kind that document 01 does not know has no rule
+    let Ok(kind) = Kind::try_from(printer.table.kind_number(node)) else {
+        return;
     };
+    let mut own = Children::of(&printer.table, node);
+    let children = &mut own;
     match kind {
-        18 => {
-            let r = leaves::string_value(words, pool, table, true, node, prefix, state, out, at);
-            r.pen
-        }
-        19 => {
-            let r = directive(words, pool, table, node, to, below, prefix, state, out, at);
-            r.pen
-        }
-        20 => {
-            let r = argument(words, pool, table, node, to, below, prefix, state, out, at);
-            r.pen
-        }
-        21 => {
-            let r = variable(words, pool, table, node, to, below, prefix, state, out, at);
-            r.pen
-        }
-        22 => {
-            let r = input(words, pool, table, node, to, below, prefix, state, out, at);
-            r.pen
-        }
-        23 => {
-            let r = field_def(words, pool, table, node, to, below, prefix, state, out, at);
-            r.pen
-        }
-        24 => {
-            let r = enum_value(words, pool, table, node, to, below, prefix, state, out, at);
-            r.pen
-        }
-        25 => {
-            let r = leaves::root_operation(words, pool, node, out, at);
-            r.pen
-        }
-        26 => {
-            let r = layout::name(words, pool, node, out, at);
-            r.pen
-        }
-        27 => {
-            let r = layout::name(words, pool, node, out, at);
-            r.pen
-        }
-        28 => {
-            let r = leaves::location(words, node, out, at);
-            r.pen
-        }
-        29 => {
-            let r = field(words, pool, table, node, to, below, prefix, state, out, at);
-            r.pen
-        }
-        30 => {
-            let r = layout::name(words, pool, node, out, at);
-            r.pen
-        }
-        31 => {
-            let r = spread(words, pool, table, node, to, below, prefix, state, out, at);
-            r.pen
-        }
-        32 => {
-            let r = inline(words, pool, table, node, to, below, prefix, state, out, at);
-            r.pen
-        }
-        33..=34 => types::serialize_type(words, pool, node, depth, out, pen),
-        35..=43 => {
-            let r = value(
-                words, pool, table, kind, node, to, below, prefix, state, out, at,
-            );
-            r.pen
-        }
-        44 => {
-            let r = argument(words, pool, table, node, to, below, prefix, state, out, at);
-            r.pen
-        }
-        _ => pen,
+        Kind::Description => leaves::string_value(
+            &printer.table,
+            printer.classes,
+            true,
+            node,
+            settings,
+            pen,
+        ),
+        Kind::Directive => directive(printer, node, children, settings, pen),
+        Kind::Argument | Kind::ObjectField => argument(printer, node, children, settings, pen),
+        Kind::VariableDefinition => variable(printer, node, children, settings, pen),
+        Kind::InputValueDefinition => input(printer, node, children, settings, pen),
+        Kind::FieldDefinition => field_def(printer, node, children, settings, pen),
+        Kind::EnumValueDefinition => enum_value(printer, node, children, settings, pen),
+        Kind::RootOperation => leaves::root_operation(&printer.table, node, pen),
+        Kind::Location => leaves::location(&printer.table, node, pen),
+        Kind::Field => field(printer, node, children, settings, pen),
+        Kind::FragmentSpread => spread(printer, node, children, settings, pen),
+        Kind::InlineFragment => inline(printer, node, children, settings, pen),
+        Kind::NamedType | Kind::ListType => types::serialize_type(&printer.table, node, pen),
+        Kind::Null => pen.write(b"null"),
+        Kind::Boolean => leaves::boolean(&printer.table, node, pen),
+        Kind::String => leaves::string_value(
+            &printer.table,
+            printer.classes,
+            false,
+            node,
+            settings,
+            pen,
+        ),
+        Kind::Variable => leaves::variable_value(&printer.table, node, pen),
+        Kind::List => list(printer, children, settings, pen),
+        Kind::ObjectValue => object(printer, children, settings, pen),
+        Kind::InterfaceName
+        | Kind::UnionMember
+        | Kind::Alias
+        | Kind::EnumValue
+        | Kind::Float
+        | Kind::Int => layout::name(&printer.table, node, pen),
+        // no definition stands below another
+        _ => unreachable!(),
     }
 }

@@ -1,2 +1,4 @@
+pub mod Said
 pub mod Blanks
 pub mod Faults
+pub mod Lines

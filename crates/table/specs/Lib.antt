@@ -1,1 +1,3 @@
+pub mod First
 pub mod Words
+pub mod Kinds

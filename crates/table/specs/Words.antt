@@ -25,6 +25,9 @@ word_read field w i r e h = record { is = e; bound = h }
 pub small_as : {r a b : ℕ} → Small r a → a ≡ b → Small r b
 small_as s e = record { is = s.is ∙ e; bound = s.bound }
 
+pub word_small : {r word : ℕ} → r ≡ word → r < 4294967296 → Small r word
+word_small e h = record { is = e; bound = h }
+
 pub kind_word : (w : List ℕ) (i : ℕ) → word 0 w i ≡ kind_at w i
 unfolding kind_at
 kind_word w i = refl

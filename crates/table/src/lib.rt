@@ -1,63 +1,86 @@
-// The words of a node.
+// A lent table of nodes, and the words of each.
 #![tactic(auto)]
 
+mod kinds;
+
 ghost use Rattle.std.specs.Prelude.{◌≡◌, ◌<◌};
+ghost use Rattle.meaning.specs.Kind.{count};
+ghost use Rattle.meaning.specs.KindNumbers.{kind_number};
 ghost use Rattle.meaning.specs.Table.{word, kind_at, variant_at, start_at, length_at, end_at, text_at};
 ghost use Rattle.table.specs.Words.{InTable, TextInPool, Small};
 
-use meaning::NodeNumber;
+pub use kinds::{KINDS, by_kind};
+use meaning::{Kind, NodeNumber};
 
-const WORDS_PER_NODE: usize = 5;
+pub const WORDS_PER_NODE: usize = 5;
 
-fn word_at(words: &[u32], i: NodeNumber, field: usize) -> usize
-    requires { InTable words.now i.0 × (field < 5) }
-    ensures { Small result (word field words.now i.0) }
-{
-    let at = i.0 * WORDS_PER_NODE + field;
-    words[at] as usize
+// The words of the nodes, and the pool that their texts lie in. Nothing is known of either.
+#[derive(Clone, Copy)]
+pub struct Table<'a> {
+    pub words: &'a [u32],
+    pub pool: &'a [u8],
 }
 
-pub fn kind(words: &[u32], i: NodeNumber) -> usize
-    requires { InTable words.now i.0 }
-    ensures { Small result (kind_at words.now i.0) }
-{
-    word_at(words, i, 0)
-}
+impl<'a> Table<'a> {
+    fn word(&self, i: NodeNumber, field: usize) -> u32
+        requires { InTable self.now.words.now i.0 × (field < 5) }
+        ensures { result ≡ word field self.now.words.now i.0 }
+    {
+        self.words[i.0 * WORDS_PER_NODE + field]
+    }
 
-pub fn variant(words: &[u32], i: NodeNumber) -> usize
-    requires { InTable words.now i.0 }
-    ensures { Small result (variant_at words.now i.0) }
-{
-    word_at(words, i, 1)
-}
+    // The number of a node's kind, whatever it is.
+    pub fn kind_number(&self, i: NodeNumber) -> u32
+        requires { InTable self.now.words.now i.0 }
+        ensures { result ≡ kind_at self.now.words.now i.0 }
+    {
+        self.word(i, 0)
+    }
 
-pub fn start(words: &[u32], i: NodeNumber) -> usize
-    requires { InTable words.now i.0 }
-    ensures { Small result (start_at words.now i.0) }
-{
-    word_at(words, i, 2)
-}
+    pub fn kind(&self, i: NodeNumber) -> Kind
+        requires { InTable self.now.words.now i.0 × (kind_at self.now.words.now i.0 < count) }
+        ensures { kind_number result ≡ kind_at self.now.words.now i.0 }
+    {
+        match Kind::try_from(self.kind_number(i)) {
+            Ok(kind) => kind,
+            Err(_) => unreachable!(),
+        }
+    }
 
-pub fn length(words: &[u32], i: NodeNumber) -> usize
-    requires { InTable words.now i.0 }
-    ensures { Small result (length_at words.now i.0) }
-{
-    word_at(words, i, 3)
-}
+    pub fn variant(&self, i: NodeNumber) -> usize
+        requires { InTable self.now.words.now i.0 }
+        ensures { Small result (variant_at self.now.words.now i.0) }
+    {
+        self.word(i, 1) as usize
+    }
 
-pub fn end(words: &[u32], i: NodeNumber) -> usize
-    requires { InTable words.now i.0 }
-    ensures { Small result (end_at words.now i.0) }
-{
-    word_at(words, i, 4)
-}
+    pub fn start(&self, i: NodeNumber) -> usize
+        requires { InTable self.now.words.now i.0 }
+        ensures { Small result (start_at self.now.words.now i.0) }
+    {
+        self.word(i, 2) as usize
+    }
 
-// The bytes of the pool that a node names.
-pub fn text<'a>(words: &[u32], pool: &'a [u8], i: NodeNumber) -> &'a [u8]
-    requires { TextInPool words.now pool.now i.0 }
-    ensures { result.now ≡ text_at words.now pool.now i.0 }
-{
-    let from = start(words, i);
-    let to = from + length(words, i);
-    &pool[from..to]
+    pub fn length(&self, i: NodeNumber) -> usize
+        requires { InTable self.now.words.now i.0 }
+        ensures { Small result (length_at self.now.words.now i.0) }
+    {
+        self.word(i, 3) as usize
+    }
+
+    pub fn end(&self, i: NodeNumber) -> usize
+        requires { InTable self.now.words.now i.0 }
+        ensures { Small result (end_at self.now.words.now i.0) }
+    {
+        self.word(i, 4) as usize
+    }
+
+    // The bytes of the pool that a node names.
+    pub fn text(&self, i: NodeNumber) -> &'a [u8]
+        requires { TextInPool self.now.words.now self.now.pool.now i.0 }
+        ensures { result.now ≡ text_at self.now.words.now self.now.pool.now i.0 }
+    {
+        let from = self.start(i);
+        &self.pool[from..from + self.length(i)]
+    }
 }

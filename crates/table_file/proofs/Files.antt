@@ -1,36 +1,22 @@
--- A number's four bytes, a file too short for its magic, and words stored one by one.
-use Rattle.std.proofs.Math.Path.{◌≡◌, ◌∙◌}
-use Rattle.std.specs.Prelude.{refl, Bool, true, false, eqb, length, take, drop, set}
-use Rattle.std.proofs.Common.{ap, add-one, arith, length-take}
-use mathlib.Core.List.{List, [], ◌∷◌, ◌++◌}
-use Prim.Native.Nat.{ℕ, suc, ◌+◌, ◌-◌, ◌*◌, ◌≤◌, ◌<◌}
-use Rattle.std.proofs.Math.ListN.{get_or}
+-- The magic, and words stored one by one.
+use Rattle.std.proofs.Common.{◌≡◌, ◌∙◌, refl, ℕ, suc, ◌+◌, ◌-◌, ◌*◌, ◌≤◌, ◌<◌, List, [], ◌∷◌, ◌++◌, length, drop, set, eqb, arith, add-one}
+use Rattle.std.specs.Cmp.Lexicographic.{pointwise}
+use Rattle.std.proofs.lemmas.Bool.Decides.{nat_tests}
 use Rattle.std.proofs.lemmas.List.Edits.{sets, sets-eq}
 use Rattle.meaning.specs.Text.{same}
-use Rattle.base.specs.Bools.{and_right, clash}
 use Rattle.table_file.specs.Within.{numbers_length}
-use Rattle.table_file.specs.File.{magic, number_at, numbers_at, is_table_file}
+use Rattle.table_file.specs.File.{number_at, numbers_at}
 
-pub number_of_bytes : (s : List ℕ) (i a b c d : ℕ) → a ≡ get_or s i 0 → b ≡ get_or s (i + 1) 0 → c ≡ get_or s (i + 2) 0 → d ≡ get_or s (i + 3) 0
-    → a + 256 * b + 65536 * (c + 256 * d) ≡ number_at s i
-unfolding number_at
-number_of_bytes s i a b c d ea eb ec ed = omega arith
+-- two texts compared by the library
+eqb_turned : (b c : ℕ) → eqb c b ≡ eqb b c
+eqb_turned b c = grind (arith, nat_tests)
 
--- texts that are the same have one length
-same_lengths : (s t : List ℕ) → same s t ≡ true → length s ≡ length t
+pub same_pointwise : (s t : List ℕ) → pointwise eqb t s ≡ same s t
 unfolding same
-same_lengths [] [] e = refl
-same_lengths [] (c ∷ t) e = clash e refl
-same_lengths (b ∷ s) [] e = clash e refl
-same_lengths (b ∷ s) (c ∷ t) e = ap suc (same_lengths s t (and_right (eqb b c) (same s t) e))
-
-pub too_short : (s : List ℕ) → length s < 8 → false ≡ is_table_file s
-unfolding is_table_file
-too_short s h = go (same (take 8 s) magic) refl
-  where
-    go : (t : Bool) → same (take 8 s) magic ≡ t → false ≡ t
-    go false e = refl
-    go true e = let l : length (take 8 s) ≡ 8 = same_lengths (take 8 s) magic e in absurd (omega (arith, length-take 8 s))
+same_pointwise [] [] = refl
+same_pointwise [] (c ∷ t) = refl
+same_pointwise (b ∷ s) [] = refl
+same_pointwise (b ∷ s) (c ∷ t) = rw (eqb_turned b c, same_pointwise s t)
 
 -- numbers stored one by one from the front
 pub store_number : (d s : List ℕ) (i n v : ℕ) → i < n → v ≡ number_at s (16 + 4 * i)

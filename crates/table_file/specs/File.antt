@@ -1,12 +1,12 @@
 -- docs/TABLE-FILE.md, the node table file: the magic `DVTABLE1`, the number of words, the number of pool bytes, the words, the pool, and
 -- nothing after it. A number and a word have four bytes, the lowest first.
-use Rattle.std.specs.Prelude.{Bool, not, List, [], ◌∷◌, ◌++◌, ℕ, zero, suc, ◌+◌, ◌*◌, ◌/◌, ◌%◌, ◌^◌, eqb, ltb, length, take, drop, get_or, if◌then◌else◌}
+use Rattle.std.specs.Prelude.{Bool, not, Result, Ok, Err, List, [], ◌∷◌, ◌++◌, ℕ, zero, suc, ◌+◌, ◌*◌, ◌/◌, ◌%◌, ◌^◌, eqb, ltb, length, take, drop, get_or, if◌then◌else◌}
 use Rattle.meaning.specs.Ascii.{ascii}
 use Rattle.meaning.specs.Text.{same}
+use Rattle.table_file.specs.declared.FileRefusal.{FileRefusal}
+use Rattle.table_file.specs.declared.FileRefusal.TheVariants.{NotATable, WrongLength, Room}
 use Rattle.table_file.specs.declared.Head.{Head}
-use Rattle.table_file.specs.declared.Head.TheVariants.{Told, NotATable as NoHead, CutShort}
 use Rattle.table_file.specs.declared.TableFile.{TableFile}
-use Rattle.table_file.specs.declared.TableFile.TheVariants.{Table, NotATable, WrongLength, Room}
 
 abbrev pub magic : List ℕ
 magic = ascii "DVTABLE1"
@@ -50,30 +50,31 @@ unfoldable pub length_told : List ℕ → ℕ
 unfolding words_told number_at
 length_told s = pool_place (words_told s) + number_at s 12
 
-unfoldable pub head_of : List ℕ → Head
+unfoldable pub head_of : List ℕ → Result Head FileRefusal
 unfolding is_table_file words_told length_told
 head_of s =
-    if not (is_table_file s) then NoHead
-    else if ltb (length s) 16 then CutShort
-    else Told (words_told s) (length_told s)
+    if not (is_table_file s) then Err NotATable
+    else if ltb (length s) 16 then Err WrongLength
+    else Ok (record { words = words_told s; length = length_told s })
+
+abbrev pub table_told : ℕ → TableFile
+table_told words = record { words = words; pool = record { 0 = pool_place words } }
 
 -- the answer, and every word of the lent memory: a file that is refused, or has no room, changes none
-unfoldable pub table_under : Head → List ℕ → List ℕ → TableFile × List ℕ
+unfoldable pub table_under : Result Head FileRefusal → List ℕ → List ℕ → Result TableFile FileRefusal × List ℕ
 unfolding numbers_at
-table_under NoHead s d = (NotATable, d)
-table_under CutShort s d = (WrongLength, d)
-table_under (Told words whole) s d =
-    if not (eqb (length s) whole) then (WrongLength, d)
-    else if ltb (length d) words then (Room words, d)
-    else (Table words (record { 0 = pool_place words }), numbers_at words s 16 ++ drop words d)
+table_under (Err refusal) s d = (Err refusal, d)
+table_under (Ok head) s d =
+    if not (eqb (length s) head.length) then (Err WrongLength, d)
+    else if ltb (length d) head.words then (Err (Room head.words), d)
+    else (Ok (table_told head.words), numbers_at head.words s 16 ++ drop head.words d)
 
-unfoldable pub table_of : List ℕ → List ℕ → TableFile × List ℕ
+unfoldable pub table_of : List ℕ → List ℕ → Result TableFile FileRefusal × List ℕ
 unfolding head_of table_under
 table_of s d = table_under (head_of s) s d
 
 -- A file's refusals have numbers past document 01's. Words that find no room are a table too large, 2, for who lends as many as 8,192 nodes have.
-abbrev pub file_number : TableFile → ℕ
-file_number (Table words pool) = 0
+abbrev pub file_number : FileRefusal → ℕ
 file_number NotATable = 20
 file_number WrongLength = 21
 file_number (Room words) = 2

@@ -1,11 +1,7 @@
 -- The file of a table is read as that table.
-use Rattle.std.specs.Prelude.{◌≡◌, true, List, [], ◌∷◌, ◌++◌, ℕ, ◌+◌, ◌*◌, ◌/◌, ◌%◌, ◌^◌, ◌≤◌, ◌<◌, length, drop, get_or}
-use Rattle.std.proofs.Math.Path.{refl, sym}
-use Rattle.std.proofs.Common.{ap, ◌∙◌, append_assoc, arith, get_or-drop, drop-drop, drop_at}
-use Rattle.std.proofs.Math.ListN.{length-append}
+use Rattle.std.specs.Prelude.{◌≡◌, true, Ok, List, [], ◌∷◌, ◌++◌, ℕ, ◌+◌, ◌*◌, ◌/◌, ◌%◌, ◌^◌, ◌≤◌, ◌<◌, length, drop, get_or}
+use Rattle.std.proofs.Common.{refl, sym, ap, ◌∙◌, append_assoc, arith, length-append, get_or-drop, drop-drop, drop_at}
 use Rattle.meaning.specs.Text.{same}
-use Rattle.table_file.specs.declared.Head.TheVariants.{Told}
-use Rattle.table_file.specs.declared.TableFile.TheVariants.{Table}
 use Rattle.table_file.specs.File.{number_bytes, words_bytes, table_file, number_at, numbers_at, is_table_file, head_of, table_of}
 use Rattle.table_file.specs.Ways.{head_told, a_table}
 
@@ -69,11 +65,11 @@ module _ (words pool : List ℕ) where
     unfolding table_file number_bytes
     pool_told = sym (number_there (table_file words pool) (words_bytes words ++ pool) 12 (length pool) short refl)
 
-    told : head_of (table_file words pool) ≡ Told (length words) (16 + 4 * length words + length pool)
+    told : head_of (table_file words pool) ≡ Ok (record { words = length words; length = 16 + 4 * length words + length pool })
     told = head_told (table_file words pool) (length words) (length pool) is_table_file_lem (omega (arith, file_length)) words_told_lem pool_told
 
     pub file_reads_back : (d : List ℕ) → Words words → length words ≤ length d
-        → table_of (table_file words pool) d ≡ (Table (length words) (record { 0 = 16 + 4 * length words }), words ++ drop (length words) d)
+        → table_of (table_file words pool) d ≡ (Ok (record { words = length words; pool = record { 0 = 16 + 4 * length words } }), words ++ drop (length words) d)
     file_reads_back d small room =
         a_table (table_file words pool) d refl (length words) (16 + 4 * length words + length pool) told file_length room
         (rw (words_there words pool (table_file words pool) 16 small past_head))

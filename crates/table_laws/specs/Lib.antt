@@ -1,3 +1,4 @@
 pub mod First
 pub mod Exactly
 pub mod Pool
+pub mod Sound

@@ -1,3 +1,1 @@
-pub mod Ones
-pub mod Ends
-pub mod Places
+pub mod Library

@@ -1,3 +1,1 @@
-pub mod Arms
-pub mod Fits
 pub mod Plain

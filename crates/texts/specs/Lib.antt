@@ -1,3 +1,2 @@
 pub mod Rule
 pub mod Known
-pub mod Plain

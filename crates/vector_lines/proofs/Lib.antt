@@ -1,4 +1,3 @@
 mod Parts
 mod Hex
 mod Commas
-mod Throughout

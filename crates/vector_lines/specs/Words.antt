@@ -1,9 +1,5 @@
 -- Words in decimal, apart by commas; `-` alone stands for no words. Numbers of 2^32 and more are no words.
-use Rattle.std.specs.Prelude.{Bool, true, false, cond, ◌&&◌, List, [], ◌∷◌, ◌++◌, ℕ, zero, suc, ◌^◌, leb, ltb, length, drop}
-use Rattle.vector_lines.specs.declared.Number.{Number}
-use Rattle.vector_lines.specs.declared.Number.TheVariants.{Is, Bad}
-use Rattle.vector_lines.specs.declared.Listed.{Listed}
-use Rattle.vector_lines.specs.declared.Listed.TheVariants.{Words, Bad as NotListed}
+use Rattle.std.specs.Prelude.{Bool, true, false, Option, Some, None, cond, ◌&&◌, List, [], ◌∷◌, ◌++◌, ℕ, zero, suc, ◌^◌, leb, ltb, length, drop}
 use Rattle.vector_lines.specs.Parts.{before, after, count_of}
 use Rattle.vector_lines.specs.Hex.{is_none}
 use Rattle.vector_lines.specs.Numbers.{number_of}
@@ -11,13 +7,13 @@ use Rattle.vector_lines.specs.Numbers.{number_of}
 abbrev pub comma : ℕ
 comma = 44
 
-abbrev pub is_small : Number → Bool
-is_small (Is n) = ltb n (2 ^ 32)
-is_small Bad = false
+abbrev pub is_small : Option ℕ → Bool
+is_small (Some n) = ltb n (2 ^ 32)
+is_small None = false
 
-abbrev pub value : Number → ℕ
-value (Is n) = n
-value Bad = 0
+abbrev pub value : Option ℕ → ℕ
+value (Some n) = n
+value None = 0
 
 -- a text that is a word, and what word it is
 abbrev pub is_word : List ℕ → Bool
@@ -40,7 +36,7 @@ abbrev pub parts_of : List ℕ → ℕ
 parts_of s = suc (count_of comma s)
 
 -- the answer, and every word of the lent memory: what is bad, or has no room, changes none
-unfoldable pub listed : List ℕ → List ℕ → Listed × List ℕ
+unfoldable pub listed : List ℕ → List ℕ → Option ℕ × List ℕ
 listed s d =
-    cond (is_none s) (Words 0, d)
-    (cond (leb (parts_of s) (length d) && are_words (parts_of s) s) (Words (parts_of s), words_of (parts_of s) s ++ drop (parts_of s) d) (NotListed, d))
+    cond (is_none s) (Some 0, d)
+    (cond (leb (parts_of s) (length d) && are_words (parts_of s) s) (Some (parts_of s), words_of (parts_of s) s ++ drop (parts_of s) d) (None, d))

@@ -1,8 +1,6 @@
 -- What the rule asks of the value is what it asks of the lines from `from` on, with `unindented` for the lines before them. The first
 -- of these is the first of all where `from` is 0.
-use Rattle.std.proofs.Math.Path.{◌≡◌}
-use Prim.Native.Nat.{◌≤◌, ◌-◌}
-use Rattle.std.specs.Prelude.{length, drop, eqb}
+use Rattle.std.proofs.Common.{◌≡◌, ◌≤◌, ◌-◌, length, drop, eqb}
 use Rattle.meaning.specs.Block.{can_be_block_string}
 use Rattle.block.specs.Rule.{remaining}
 use Rattle.block.proofs.can_be_block_string.Given as goal

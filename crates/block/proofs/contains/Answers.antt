@@ -1,12 +1,16 @@
--- Whether `byte` stands before i is in `seen`, and in the end i is the end.
-use Rattle.block.specs.Places.{seen_none, seen_one, seen_all}
+-- Each byte in turn.
+use Rattle.std.proofs.Common.{rules, tests, List, ◌≡◌, ◌∙◌, refl, ◌||◌, eqb, ℕ, Bool}
+use Rattle.std.proofs.lemmas.Fn.{fronts, fold_over, slice_gives}
+use Rattle.meaning.specs.Block.{has}
+use Rattle.block.specs.Places.{has_more}
 use Rattle.block.proofs.contains.Goals as goal
 
-pub loop-i-init : goal.loop-i-init
-loop-i-init c = seen_none
-
-pub loop-i-preserved : goal.loop-i-preserved
-loop-i-preserved c = seen_one c.loop-i.invariant c.loop-i-test.true
-
 pub returns : goal.returns
-returns c = seen_all c.loop-i.invariant c.loop-i-test.false
+unfolding has
+returns c =
+    let J : List ℕ → Bool → Type 0 = λ ys s. s ≡ has c.args.byte ys in
+    let e = fold_over fronts (λ y. y.now) _ J _
+    (λ ys s x t f' j k.
+    let h : t ≡ s || eqb x.now c.args.byte = search (rules, tests) in
+    (h ∙ rw j (has_more c.args.byte ys x.now), search (rules, tests))) _ _ _ _ (slice_gives c.iter.result) refl c.fold.ensures.ran in
+    rw c.iter.ensures.rest at e

@@ -1,21 +1,15 @@
--- From `from` up to i there are only spaces and tabs.
-use Rattle.std.proofs.Math.Path.{◌∙◌}
-use Rattle.std.proofs.Common.{ap, not}
-use Rattle.block.specs.Places.{is_text, clear_at_first, clear_on, clear_one, found, found_nowhere, byte_at}
+-- The library's search.
+use Rattle.std.proofs.Common.{rules, tests, ◌≡◌, ◌∙◌, refl, drop, take, length, take_all, length-drop, arith, ◌-◌}
+use Rattle.std.proofs.lemmas.Iterator.{YieldsList-from_slice}
+use Rattle.std.proofs.lemmas.Iterator.Search.{position_from_yields_List}
+use Rattle.block.specs.Places.{is_text, clear_at_first, found_by_position}
 use Rattle.block.proofs.skip_whitespace.Goals as goal
 
-pub loop-i-init : goal.loop-i-init
-loop-i-init c = clear_at_first c.requires
-
-pub returns-then-not-is_blank : goal.returns-then-not-is_blank
-returns-then-not-is_blank c =
-    let h = c.loop-i-test.true in
-    found c.loop-i.invariant h (byte_at is_text _ _ h ∙ rw (← c.is_blank.ensures) (ap not c.if-not-is_blank.true))
-
-pub loop-i-preserved : goal.loop-i-preserved
-loop-i-preserved c =
-    let h = c.loop-i-test.true in
-    clear_on c.loop-i.invariant (clear_one h (byte_at is_text _ _ h ∙ rw (← c.is_blank.ensures) (ap not c.if-not-is_blank.false)))
-
 pub returns : goal.returns
-returns c = found_nowhere c.loop-i.invariant c.loop-i-test.false
+returns c =
+    let i = c.args.from in
+    let v = c.args.value.now in
+    let rest : take (length v - i) (drop i v) ≡ drop i v = take_all _ _ (omega (arith, length-drop i v)) in
+    let e = rw rest at c.unwrap_or.ensures in
+    let p = position_from_yields_List is_text _ _ c.position-run.result c.position-run.ensures.ran (YieldsList-from_slice _ (c.iter.ensures.rest ∙ rest)) (λ x b q k. search (rules, tests)) in
+    found_by_position is_text (clear_at_first c.requires) (rw (e, p) refl)

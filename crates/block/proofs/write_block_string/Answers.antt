@@ -4,4 +4,4 @@ use Rattle.block.specs.Text.{between_quotes}
 use Rattle.block.proofs.write_block_string.Goals as goal
 
 pub returns : goal.returns
-returns c = wrote_as (c.write-p.ensures ⨾ c.write_between-q.ensures ⨾ c.write.ensures) (between_quotes _ _)
+returns c = wrote_as (c.write.ensures ⨾ c.write_between.ensures ⨾ c.write-2.ensures) (between_quotes _ _)

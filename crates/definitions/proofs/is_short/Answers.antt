@@ -1,16 +1,22 @@
--- `definitions::is_short` meets its contract: the tests of shorthand, in their order.
-use Rattle.definitions.specs.Short.{other_kind, other_variant, named, selections_tell}
-use Rattle.std.proofs.Math.Path.{◌∙◌}
+-- `definitions::is_short` meets its contract: each test tells.
+use Rattle.std.proofs.Common.{ap, eqb}
+use Rattle.layout.specs.Jobs.{in_table, within, own_children}
+use Rattle.definitions.specs.Short.{short_told}
 use Rattle.definitions.proofs.is_short.Goals as goal
 
-pub returns-then-kind-ne-OPERATION : goal.returns-then-kind-ne-OPERATION
-returns-then-kind-ne-OPERATION c = other_kind _ _ _ c.kind.ensures.is c.if-kind-ne-OPERATION.true
+pub kind_number-requires : goal.kind_number-requires
+kind_number-requires c = in_table c.args.printer.now.shaped c.requires.inside
 
-pub returns-then-variant-ne0 : goal.returns-then-variant-ne0
-returns-then-variant-ne0 c = other_variant _ _ _ c.kind.ensures.is c.if-kind-ne-OPERATION.false c.variant.ensures.is c.if-variant-ne0.true
+pub variant-query-requires : goal.variant-query-requires
+variant-query-requires c = in_table c.args.printer.now.shaped c.requires.inside
 
-pub returns-then-length-ne0 : goal.returns-then-length-ne0
-returns-then-length-ne0 c = named _ _ _ c.kind.ensures.is c.if-kind-ne-OPERATION.false c.variant.ensures.is c.if-variant-ne0.false c.length.ensures.is c.if-length-ne0.true
+pub length-unnamed-requires : goal.length-unnamed-requires
+length-unnamed-requires c = in_table c.args.printer.now.shaped c.requires.inside
+
+pub is_next-requires : goal.is_next-requires
+is_next-requires c = within c.args.printer.now.shaped (own_children c.args.printer.now.shaped c.requires.inside c.requires.own)
 
 pub returns : goal.returns
-returns c = c.is_next.ensures ∙ selections_tell _ _ _ c.kind.ensures.is c.if-kind-ne-OPERATION.false c.variant.ensures.is c.if-variant-ne0.false c.length.ensures.is c.if-length-ne0.false
+returns c =
+    short_told c.requires.own (ap (λ n. eqb c.kind_number.result n) c.number.ensures) c.kind_number.ensures c.variant-query.ensures.is c.length-unnamed.ensures.is
+    c.is_next.ensures

@@ -1,23 +1,9 @@
 -- `definitions::scalar` meets its contract: the parts of its rule, one after the other.
-use Rattle.definitions.specs.Segments.{body}
-use Rattle.serialize.specs.Parts.{jobs_kept, did_spaced}
-use Rattle.layout.specs.Did.{◌⨾◌, did_tokens, did_name}
-use Rattle.layout.specs.Jobs.{here}
-use Rattle.pen.specs.Wrote.{wrote_length}
+use Rattle.std.proofs.Common.{refl, ◌++◌}
 use Rattle.meaning.specs.Rules.{token, sp}
-use mathlib.Core.List.{◌++◌}
-use Rattle.std.specs.Prelude.{refl}
+use Rattle.layout.specs.Did.{◌⨾◌, did_tokens, did_name}
+use Rattle.serialize.specs.Parts.{did_spaced}
 use Rattle.definitions.proofs.scalar.Goals as goal
 
-pub name-b-requires : goal.name-b-requires
-name-b-requires c = c.requires.text
-
-pub directives-requires : goal.directives-requires
-directives-requires c = here (jobs_kept (jobs_kept c.requires.jobs c.token-a.ensures) c.name-b.ensures)
-
 pub returns : goal.returns
-unfolding body
-returns c = did_tokens (token "scalar" ++ sp) refl c.token-a.ensures ⨾ did_name c.name-b.ensures ⨾ did_spaced _ c.directives.ensures
-
-pub shape_of-out : goal.shape_of-out
-shape_of-out c = wrote_length (returns c).walked.wrote
+returns c = did_tokens (token "scalar" ++ sp) refl c.write.ensures ⨾ did_name c.name.ensures ⨾ did_spaced _ c.directives.ensures

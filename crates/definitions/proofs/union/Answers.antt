@@ -1,27 +1,12 @@
 -- `definitions::union` meets its contract: the parts of its rule, one after the other.
-use Rattle.definitions.specs.Segments.{body}
-use Rattle.serialize.specs.Parts.{jobs_kept, jobs_walked, did_spaced}
-use Rattle.layout.specs.Did.{◌⨾◌, did_tokens, did_name}
-use Rattle.layout.specs.Jobs.{here}
-use Rattle.pen.specs.Wrote.{wrote_length}
-use Rattle.meaning.specs.Rules.{token, sp}
+use Rattle.std.proofs.Common.{refl, ◌++◌}
 use Rattle.meaning.specs.Ascii.{ascii}
-use mathlib.Core.List.{◌++◌}
-use Rattle.std.specs.Prelude.{refl}
+use Rattle.meaning.specs.Rules.{token, sp}
+use Rattle.layout.specs.Did.{◌⨾◌, did_tokens, did_name}
+use Rattle.serialize.specs.Parts.{did_spaced}
 use Rattle.definitions.proofs.union.Goals as goal
 
-pub name-b-requires : goal.name-b-requires
-name-b-requires c = c.requires.text
-
-pub directives-c-requires : goal.directives-c-requires
-directives-c-requires c = here (jobs_kept (jobs_kept c.requires.jobs c.token-a.ensures) c.name-b.ensures)
-
-pub listed_after-requires : goal.listed_after-requires
-listed_after-requires c = jobs_walked (jobs_kept (jobs_kept c.requires.jobs c.token-a.ensures) c.name-b.ensures) c.directives-c.ensures
-
 pub returns : goal.returns
-unfolding body
-returns c = did_tokens (token "union" ++ sp) refl c.token-a.ensures ⨾ did_name c.name-b.ensures ⨾ did_spaced _ c.directives-c.ensures ⨾ c.listed_after.ensures _ (sp ++ token "=" ++ sp) (ascii "|") refl refl refl
-
-pub shape_of-out : goal.shape_of-out
-shape_of-out c = wrote_length (returns c).walked.wrote
+returns c =
+    did_tokens (token "union" ++ sp) refl c.write.ensures ⨾ did_name c.name.ensures ⨾ did_spaced _ c.directives.ensures
+    ⨾ c.listed_after.ensures _ (sp ++ token "=" ++ sp) (ascii "|") refl refl refl

@@ -1,22 +1,16 @@
 -- What the rest of the bytes makes of the remainder is the digest of the whole.
-use Rattle.std.proofs.Math.Path.{◌∙◌}
-use Rattle.std.proofs.Common.{sym, arith}
-use Rattle.digest.proofs.Remainders.{digit_more, digits_end, digits_begin}
+use Rattle.std.proofs.Common.{◌∙◌, refl, sym, arith}
+use Rattle.digest.specs.Digest.{digest}
+use Rattle.digest.proofs.Remainders.{digit_more, digits_end}
 use Rattle.digest.proofs.digest.Goals as goal
 
-pub loop-i-init : goal.loop-i-init
-loop-i-init c = (omega arith, digits_begin _)
+pub loop-b-init : goal.loop-b-init
+unfolding digest
+loop-b-init c = (omega arith, refl)
 
-pub overflow_add-remainder : goal.overflow_add-remainder
-overflow_add-remainder c = omega (arith, c.shared_slice_known-in-loop-i-1.given c.loop-i.i, c.wide.ensures)
-
-pub loop-i-preserved : goal.loop-i-preserved
-loop-i-preserved c =
-    let l = c.loop-i in
-    let h = c.loop-i-test.true in
-    (omega arith, digit_more _ l.i l.remainder _ h c.wide.ensures ∙ l.invariant.1)
+pub loop-b-preserved : goal.loop-b-preserved
+loop-b-preserved c =
+    (omega arith, digit_more _ c.loop-b.b-index c.loop-b.remainder _ c.loop-b-test.true c.from.ensures ∙ c.loop-b.invariant.1)
 
 pub returns : goal.returns
-returns c =
-    let l = c.loop-i in
-    sym (digits_end _ l.i l.remainder c.loop-i-test.false l.invariant.0) ∙ l.invariant.1
+returns c = sym (digits_end _ c.loop-b.b-index _ c.loop-b-test.false c.loop-b.invariant.0) ∙ c.loop-b.invariant.1

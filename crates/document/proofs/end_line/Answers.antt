@@ -1,11 +1,10 @@
 -- `document::end_line` meets its contract: nothing with breaks off.
-use Rattle.document.specs.Top.{ending_on, ending_off}
 use Rattle.pen.specs.Wrote.{wrote_as, wrote_none}
-use Rattle.std.proofs.Common.{arith}
+use Rattle.document.specs.Top.{ending_on, ending_off}
 use Rattle.document.proofs.end_line.Goals as goal
 
-pub returns-then-state : goal.returns-then-state
-returns-then-state c = wrote_as c.write_byte.ensures (ending_on _ c.if-state.true)
+pub returns-then-settings : goal.returns-then-settings
+returns-then-settings c = wrote_as c.write_byte.ensures (ending_on _ c.if-settings.true)
 
-pub returns : goal.returns
-returns c = wrote_as (wrote_none (record { place = omega arith; size = omega arith })) (ending_off _ c.if-state.false)
+pub returns-else-settings : goal.returns-else-settings
+returns-else-settings c = wrote_as wrote_none (ending_off _ c.if-settings.false)

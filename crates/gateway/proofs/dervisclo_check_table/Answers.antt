@@ -1,6 +1,6 @@
--- `gateway::dervisclo_check_table` meets its contract: the answer is that of `check_table::check_table`.
+-- The answer is that of `check_table::check_table`.
 use Rattle.gateway.specs.Numbers.{told_place}
 use Rattle.gateway.proofs.dervisclo_check_table.Goals as goal
 
 pub returns : goal.returns
-returns c = told_place c.check_table-answer.result c.check_table-answer.ensures c.checked_number.ensures c.checked_place.ensures
+returns c = told_place c.check_table.ensures c.tell.ensures

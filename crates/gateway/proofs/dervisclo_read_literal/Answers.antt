@@ -1,9 +1,10 @@
--- `gateway::dervisclo_read_literal` meets its contract: the answer is that of `reader::read_literal`, taken apart.
-use Rattle.gateway.specs.Numbers.{told_refusal, told_value}
+-- The answer is that of `reader::read_literal`, taken apart.
+use Rattle.std.proofs.Common.{refl}
+use Rattle.gateway.specs.Numbers.{told_form_by}
 use Rattle.gateway.proofs.dervisclo_read_literal.Goals as goal
 
-pub returns-in_default : goal.returns-in_default
-returns-in_default c = told_refusal c.read_literal-answer.ensures c.in_default.is c.reading_number.ensures c.reading_length.ensures
+pub returns-in-Ok : goal.returns-in-Ok
+returns-in-Ok c = told_form_by c.in-Ok.ensures refl refl c.form_number.ensures
 
-pub returns : goal.returns
-returns c = told_value c.read_literal-answer.ensures c.in-Value.is c.form_number.ensures
+pub returns-in-Err : goal.returns-in-Err
+returns-in-Err c = told_form_by c.in-Err.ensures c.number.ensures c.needed.ensures refl

@@ -1,10 +1,10 @@
--- `layout::trailing_comma` meets its contract: nothing with breaks off.
-use Rattle.layout.specs.Written.{kept_none, kept_as, comma_off, comma_on}
-use Rattle.std.proofs.Common.{arith}
+-- `trailing_comma` meets its contract: nothing with breaks off.
+use Rattle.pen.specs.Wrote.{wrote_as, wrote_none}
+use Rattle.layout.specs.Written.{comma_off, comma_on}
 use Rattle.layout.proofs.trailing_comma.Goals as goal
 
-pub returns-then-list : goal.returns-then-list
-returns-then-list c = kept_as (comma_on _ c.if-list.true) c.token.ensures
+pub returns-then-settings : goal.returns-then-settings
+returns-then-settings c = wrote_as c.write.ensures (comma_on _ c.if-settings.true)
 
-pub returns : goal.returns
-returns c = kept_as (comma_off _ c.if-list.false) (kept_none (record { place = omega arith; size = omega arith }))
+pub returns-else-settings : goal.returns-else-settings
+returns-else-settings c = wrote_as wrote_none (comma_off _ c.if-settings.false)

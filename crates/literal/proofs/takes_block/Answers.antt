@@ -1,22 +1,31 @@
--- `literal::takes_block` meets its contract: each test of the rule, in order.
+-- Each test of the rule, in order.
+use Rattle.std.proofs.Common.{sym, ap, ◌∙◌, not}
+use Rattle.base.specs.Bools.{clash}
+use Rattle.meaning.specs.Literal.{takes_block}
 use Rattle.literal.specs.Chosen.{no_breaks, described, no_feed, some_feed}
-use Rattle.std.proofs.Common.{ap, not}
+use Rattle.literal.proofs.takes_block.Goals.{then-settings+then-description, then-settings+else-description, else-settings}
 use Rattle.literal.proofs.takes_block.Goals as goal
 
-pub returns-then-not-breaks : goal.returns-then-not-breaks
-returns-then-not-breaks c = no_breaks c.args.breaks _ (ap not c.if-not-breaks.true)
+pub returns-then-contains_newline : goal.returns-then-contains_newline
+unfolding takes_block
+returns-then-contains_newline c =
+    let b = c.args.settings.now.breaks in
+    let t = c.if-contains_newline.true in
+    elim c.if-settings.branch [
+      | then-settings+then-description w ↦ described b _ _ _ _ (ap not w.if-settings.true) w.if-description.true c.can_be_block_string.ensures
+      | then-settings+else-description w ↦
+          some_feed b _ _ _ _ _ (ap not w.if-settings.true) w.if-description.false w.contains_newline.ensures (ap not (sym w.value-is ∙ t)) c.can_be_block_string.ensures
+      | else-settings w ↦ clash t (w.value-is ∙ w.if-settings.false)
+    ]
 
-pub returns-then-description : goal.returns-then-description
-returns-then-description c =
-    let a = c.args in
-    described a.breaks a.description _ _ _ (ap not c.if-not-breaks.false) c.if-description.true c.can_be_block_string.ensures
-
-pub returns-then-not-contains_newline : goal.returns-then-not-contains_newline
-returns-then-not-contains_newline c =
-    let a = c.args in
-    no_feed a.breaks a.description _ _ _ (ap not c.if-not-breaks.false) c.if-description.false c.contains_newline.ensures (ap not c.if-not-contains_newline.true)
-
-pub returns : goal.returns
-returns c =
-    let a = c.args in
-    some_feed a.breaks a.description _ _ _ _ (ap not c.if-not-breaks.false) c.if-description.false c.contains_newline.ensures (ap not c.if-not-contains_newline.false) c.can_be_block_string-2.ensures
+pub returns-else-contains_newline : goal.returns-else-contains_newline
+unfolding takes_block
+returns-else-contains_newline c =
+    let b = c.args.settings.now.breaks in
+    let f = c.if-contains_newline.false in
+    elim c.if-settings.branch [
+      | then-settings+then-description w ↦ clash (w.value-is ∙ w.if-description.true) f
+      | then-settings+else-description w ↦
+          f ∙ no_feed b _ _ _ _ (ap not w.if-settings.true) w.if-description.false w.contains_newline.ensures (ap not (sym w.value-is ∙ f))
+      | else-settings w ↦ f ∙ no_breaks b _ (ap not w.if-settings.false)
+    ]

@@ -1,5 +1,5 @@
 -- The test is the definition's.
-use Rattle.std.proofs.Common.{lt-ltb, le-ltb}
+use Rattle.std.proofs.Common.{lt-ltb, le-ltb, arith}
 use Rattle.meaning.specs.Quoted.{hex_digit}
 use Rattle.quoted.proofs.hex_digit.Goals as goal
 
@@ -7,6 +7,6 @@ pub returns-then-n-lt10 : goal.returns-then-n-lt10
 unfolding hex_digit
 returns-then-n-lt10 c = simp (lt-ltb _ _ c.if-n-lt10.true)
 
-pub returns : goal.returns
+pub returns-else-n-lt10 : goal.returns-else-n-lt10
 unfolding hex_digit
-returns c = simp (le-ltb _ _ c.if-n-lt10.false)
+returns-else-n-lt10 c = simp (le-ltb _ _ c.if-n-lt10.false) (omega arith)

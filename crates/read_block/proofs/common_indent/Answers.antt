@@ -1,62 +1,69 @@
--- `read_block::common_indent` finds the common indent: what was seen and the common indent of the lines to come always give it.
-use Rattle.std.proofs.Math.Path.{◌∙◌}
-use Rattle.std.proofs.Common.{sym, ap, arith}
-use Rattle.std.proofs.Math.Option.{Option}
-use Prim.Native.Nat.{ℕ, ◌+◌, ◌≤◌}
-use Rattle.std.specs.Prelude.{length, drop}
-use Rattle.meaning.specs.Block.{common_indent}
-use Rattle.read_block_laws.specs.FirstLine.{lines_of}
+-- `read_block::common_indent`: each line counts, and nothing is left behind the last.
+use Rattle.std.proofs.Common.{◌≡◌, sym, ◌∙◌, ap, refl, arith, ℕ, List, Option, Some, None, ◌+◌, ◌-◌, ◌≤◌, ◌<◌, length, drop, length-drop, drop-drop}
+use Rattle.std.proofs.Math.Option.{Option as Maybe}
+use Rattle.std.specs.Option.{unwrap_or}
+use Rattle.meaning.specs.Block.{indent, common_indent}
+use Rattle.read_block_laws.specs.FirstLine.{line_length, lines_of}
 use Rattle.read_block_laws.specs.Outdented.{number_of}
-use Rattle.read_block_laws.specs.LeastIndent.{merged, nothing_merged, line_ends_before, line_is_counted, last_line_is_counted, no_line_counts}
-use Rattle.read_block_laws.specs.Counts.{blanks_end_within}
+use Rattle.read_block_laws.specs.LeastIndent.{with_line, merged, nothing_merged, line_is_counted, last_line_is_counted}
 use Rattle.read_block.specs.Indent.{indent_seen}
+use Rattle.read_block.proofs.Parts.{from, from_is}
 use Rattle.read_block.proofs.common_indent.Goals as goal
 
-pub loop-i-init : goal.loop-i-init
-loop-i-init c = nothing_merged _
+number : (o : Option ℕ) → unwrap_or o 0 ≡ number_of (indent_seen o)
+number None = refl
+number (Some n) = refl
 
-pub line_end-end-requires : goal.line_end-end-requires
-line_end-end-requires c = blanks_end_within _ c.loop-i.i _ c.loop-i-test.true c.blanks_end-text.ensures
+-- the first line of r has n blanks and m bytes behind them
+module _ (s r t e : List ℕ) (o p : Maybe ℕ) (n m : ℕ) (a : merged o (common_indent (lines_of r)) ≡ common_indent (lines_of s))
+    (i : n ≡ indent r) (j : t ≡ drop n r) (k : m ≡ line_length t) (l : e ≡ drop m t) (g : p ≡ with_line n (n + m) o) where
+  text_there : n ≡ 0 + indent (drop 0 r)
+  text_there = omega (arith, i)
 
-pub overflow_sub-text : goal.overflow_sub-text
-overflow_sub-text c = omega (arith, c.blanks_end-text.ensures)
+  end_there : n + m ≡ n + line_length (drop n r)
+  end_there = rw (← j, ← k) refl
 
-pub overflow_sub-end : goal.overflow_sub-end
-overflow_sub-end c = omega (arith, c.line_end-end.ensures, c.blanks_end-text.ensures)
+  behind : e ≡ drop (n + m) r
+  behind = l ∙ ap (drop m) j ∙ drop-drop m n r
 
-pub returns-then-end-s : goal.returns-then-end-s
-returns-then-end-s c =
-    let l = c.loop-i in
-    let o = indent_seen l.seen in
-    let s = c.args.s.now in
-    let over : length s ≤ c.line_end-end.result = omega (arith, c.if-end-s.true) in
-    let last = last_line_is_counted o s l.i _ _ c.blanks_end-text.ensures c.line_end-end.ensures over in
-    c.number.ensures ∙ ap number_of (c.with_line-seen.ensures ∙ sym last ∙ l.invariant)
+  counted : with_line (n - 0) (n + m - 0) o ≡ p
+  counted =
+      let x : n - 0 ≡ n = omega arith in
+      let y : n + m - 0 ≡ n + m = omega arith in
+      rw (x, y) (sym g)
 
-pub overflow_add-i : goal.overflow_add-i
-overflow_add-i c =
-    let l = c.loop-i in
-    let s = c.args.s.now in
-    let end = c.line_end-end.result in
-    let more = line_ends_before (indent_seen l.seen) s l.i _ end c.blanks_end-text.ensures c.line_end-end.ensures in
-    omega (arith, more c.loop-i-test.true c.if-end-s.false)
+  last_line : length e < 1 → p ≡ common_indent (lines_of s)
+  last_line h =
+      let z : length r ≤ n + m = omega (arith, ap length behind, length-drop (n + m) r) in
+      sym counted ∙ sym (last_line_is_counted o r 0 n (n + m) text_there end_there z) ∙ a
 
-pub loop-i-smaller : goal.loop-i-smaller
-loop-i-smaller c = omega (arith, c.line_end-end.ensures, c.blanks_end-text.ensures, c.loop-i-test.true)
+  one_line : 1 ≤ length e → merged p (common_indent (lines_of (from e 1))) ≡ common_indent (lines_of s)
+  one_line h =
+      let z : n + m < length r = omega (arith, ap length behind, length-drop (n + m) r) in
+      let u : from e 1 ≡ drop (n + m + 1) r = from_is e 1 ∙ ap (drop 1) behind ∙ drop-drop 1 (n + m) r in
+      rw (u, ← counted) (sym (line_is_counted o r 0 n (n + m) text_there end_there z) ∙ a)
 
-pub loop-i-preserved : goal.loop-i-preserved
-loop-i-preserved c =
-    let l = c.loop-i in
-    let s = c.args.s.now in
-    let o = indent_seen l.seen in
-    let end = c.line_end-end.result in
-    let more = line_ends_before o s l.i _ end c.blanks_end-text.ensures c.line_end-end.ensures in
-    let one = line_is_counted o s l.i _ end c.blanks_end-text.ensures c.line_end-end.ensures in
-    ap (λ (x : Option ℕ). merged x (common_indent (lines_of (drop (end + 1) s)))) c.with_line-seen.ensures
-    ∙ sym (one (more c.loop-i-test.true c.if-end-s.false))
-    ∙ l.invariant
+pub loop-behind-init : goal.loop-behind-init
+loop-behind-init c = nothing_merged _
 
-pub returns : goal.returns
-returns c =
-    let l = c.loop-i in
-    c.number-2.ensures ∙ ap number_of (sym (no_line_counts (indent_seen l.seen) _ l.i c.loop-i-test.false) ∙ l.invariant)
+pub returns-in-empty : goal.returns-in-empty
+returns-in-empty c =
+    let r = c.loop-behind.rest.now in
+    let a = c.split_at.ensures in
+    let b = c.split_at-in-loop-behind.ensures in
+    c.unwrap_or.ensures
+    ∙ number c.with_line-least.result
+    ∙ ap number_of (last_line _ r _ _ _ _ _ _ c.loop-behind.invariant
+    (a.front_len ∙ c.indent.ensures.value) (a.back ∙ ap (λ (n : ℕ). drop n r) (sym a.front_len))
+    (b.front_len ∙ c.line_length.ensures.value) (b.back ∙ ap (λ (n : ℕ). drop n c.split_at.result.1.now) (sym b.front_len))
+    c.with_line-least.ensures c.in-empty.len_below)
+
+pub loop-behind-preserved : goal.loop-behind-preserved
+loop-behind-preserved c =
+    let r = c.loop-behind.rest.now in
+    let a = c.split_at.ensures in
+    let b = c.split_at-in-loop-behind.ensures in
+    one_line _ r _ _ _ _ _ _ c.loop-behind.invariant
+    (a.front_len ∙ c.indent.ensures.value) (a.back ∙ ap (λ (n : ℕ). drop n r) (sym a.front_len))
+    (b.front_len ∙ c.line_length.ensures.value) (b.back ∙ ap (λ (n : ℕ). drop n c.split_at.result.1.now) (sym b.front_len))
+    c.with_line-least.ensures c.in-len1-up.len_at_least

@@ -1,22 +1,24 @@
--- `read_block::has_mark` tells a mark among sixteen bytes. The loop keeps whether one was among the bytes that it passed.
-use Rattle.std.proofs.Math.Path.{◌≡◌, ◌∙◌}
-use Rattle.std.proofs.Common.{sym, ap, arith, rules}
-use Prim.Native.Nat.{ℕ, ◌+◌, ◌<◌}
-use Rattle.std.specs.Prelude.{length, take, drop}
-use Rattle.read_block_laws.specs.Plain.{marked, none_marked, one_more_byte}
+-- `read_block::has_mark` tells a mark among sixteen bytes.
+use Rattle.std.proofs.Common.{◌≡◌, ◌∙◌, refl, ℕ, Bool, true, false, ◌||◌, List, [], ◌∷◌, rules, tests}
+use Rattle.std.specs.List.{fold}
+use Rattle.std.proofs.lemmas.Iterator.{YieldsList-from_slice}
+use Rattle.std.proofs.lemmas.Iterator.Consumers.{fold_from_yields_List}
+use Rattle.read_block_laws.specs.Plain.{is_mark, marked}
 use Rattle.read_block.proofs.has_mark.Goals as goal
 
-pub loop-k-init : goal.loop-k-init
-loop-k-init c = (search rules, sym (none_marked (drop c.args.i c.args.s.now)))
-
-pub loop-k-preserved : goal.loop-k-preserved
-loop-k-preserved c =
-    let l = c.loop-k in
-    let in-text : c.args.i + l.k < length c.args.s.now = omega (arith, c.requires, c.loop-k-test.true) in
-    (search rules, rw (l.invariant.1, c.is_mark-found.ensures) (sym (one_more_byte _ _ _ in-text)))
+found_among : (s : List ℕ) (x : Bool) → fold (λ found b. found || is_mark b) x s ≡ x || marked s
+unfolding marked
+found_among [] true = refl
+found_among [] false = refl
+found_among (b ∷ s) x = found_among s (x || is_mark b) ∙ go x
+  where
+    go : (x : Bool) → (x || is_mark b) || marked s ≡ x || (is_mark b || marked s)
+    go true = refl
+    go false = refl
 
 pub returns : goal.returns
 returns c =
-    let l = c.loop-k in
-    let all : l.k ≡ 16 = omega (arith, l.invariant.0, c.loop-k-test.false) in
-    l.invariant.1 ∙ ap (λ (n : ℕ). marked (take n (drop c.args.i c.args.s.now))) all
+    let s = c.args.stride.now in
+    fold_from_yields_List _ (λ found b. found || is_mark b) false _ c.fold.ensures.ran
+    (YieldsList-from_slice s cc) (λ a x b q k. search (rules, tests))
+    ∙ found_among s false

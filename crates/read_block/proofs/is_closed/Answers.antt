@@ -1,56 +1,46 @@
--- `read_block::is_closed` tells whether a text is closed. What it passes over, an escape, a byte or bytes that are no marks,
--- changes nothing of that, and the first three quotes that it meets decide it.
-use Rattle.std.proofs.Math.Path.{◌∙◌}
-use Rattle.std.proofs.Common.{sym, arith}
-use Rattle.read_block_laws.specs.Closing.{three_quotes_within, escape_within, quotes_close, escape_is_passed, byte_is_passed, nothing_closes}
-use Rattle.read_block_laws.specs.Plain.{closing_goes_on}
+-- `read_block::is_closed`: the first three quotes that it meets decide it, and what it passes over changes nothing of that.
+use Rattle.std.proofs.Common.{◌≡◌, sym, ◌∙◌, ap, true, false, eqb, arith, ℕ, List, ◌≤◌, ◌<◌, length}
+use Rattle.std.proofs.lemmas.Bool.Decides.{nat_tests}
+use Rattle.read_block_laws.specs.Unescaped.{escapes}
+use Rattle.read_block_laws.specs.Closing.{closed, quotes_close, escape_is_passed, byte_is_passed, nothing_closes}
+use Rattle.read_block_laws.specs.Plain.{Plain, closing_goes_on}
+use Rattle.meaning.specs.Block.{three_quotes}
+use Rattle.read_block.proofs.Parts.{from, from_is}
 use Rattle.read_block.proofs.is_closed.Goals as goal
 
-pub loop-i-init : goal.loop-i-init
-loop-i-init c = (c.next_mark-i.ensures.within, closing_goes_on _ _ _ c.next_mark-i.ensures)
+eqb_flips : (n : ℕ) → eqb n 3 ≡ eqb 3 n
+eqb_flips n = grind (arith, nat_tests)
 
-pub overflow_add-result : goal.overflow_add-result
-overflow_add-result c =
-    let quotes = sym c.three_quotes.ensures ∙ c.if-three_quotes.true in
-    omega (arith, three_quotes_within c.args.s.now c.loop-i.i quotes)
+module _ (s r : List ℕ) (k : ℕ) (p : Plain r 0 k) (a : closed r ≡ closed s) where
+  same : closed (from r k) ≡ closed s
+  same = ap closed (from_is r k) ∙ closing_goes_on r 0 k p ∙ a
 
-pub returns-then-three_quotes : goal.returns-then-three_quotes
-returns-then-three_quotes c =
-    let l = c.loop-i in
-    sym (quotes_close _ l.i (sym c.three_quotes.ensures ∙ c.if-three_quotes.true)) ∙ l.invariant.1
+  nothing_left : length (from r k) < 1 → false ≡ closed s
+  nothing_left h = sym (nothing_closes (from r k) 0 (omega (arith, h))) ∙ same
 
-pub overflow_add-i : goal.overflow_add-i
-overflow_add-i c =
-    let s = c.args.s.now in
-    let escape = sym c.is_escape.ensures ∙ c.if-is_escape.true in
-    omega (arith, escape_within s c.loop-i.i c.loop-i-test.true escape)
+  three_quotes_left : three_quotes (from r k) ≡ true → eqb (length (from r k)) 3 ≡ closed s
+  three_quotes_left e = eqb_flips (length (from r k)) ∙ sym (quotes_close (from r k) 0 e) ∙ same
 
-pub next_mark-i-requires-then-is_escape : goal.next_mark-i-requires-then-is_escape
-next_mark-i-requires-then-is_escape c =
-    let s = c.args.s.now in
-    let escape = sym c.is_escape.ensures ∙ c.if-is_escape.true in
-    omega (arith, escape_within s c.loop-i.i c.loop-i-test.true escape)
+  module _ (h : 1 ≤ length (from r k)) where
+    past_escape : escapes (from r k) ≡ true → closed (from (from r k) 4) ≡ closed s
+    past_escape e = ap closed (from_is (from r k) 4) ∙ sym (escape_is_passed (from r k) 0 (omega (arith, h)) e) ∙ same
 
-pub loop-i-smaller-then-is_escape : goal.loop-i-smaller-then-is_escape
-loop-i-smaller-then-is_escape c = omega (arith, c.next_mark-i-then-is_escape.ensures.onward, c.loop-i-test.true)
+    past_byte : three_quotes (from r k) ≡ false → escapes (from r k) ≡ false → closed (from (from r k) 1) ≡ closed s
+    past_byte e f = ap closed (from_is (from r k) 1) ∙ sym (byte_is_passed (from r k) 0 (omega (arith, h)) e f) ∙ same
 
-pub loop-i-preserved-then-is_escape : goal.loop-i-preserved-then-is_escape
-loop-i-preserved-then-is_escape c =
-    let l = c.loop-i in
-    let p = c.next_mark-i-then-is_escape.ensures in
-    let escape = sym c.is_escape.ensures ∙ c.if-is_escape.true in
-    (p.within, closing_goes_on _ _ _ p ∙ sym (escape_is_passed _ l.i c.loop-i-test.true escape) ∙ l.invariant.1)
+pub returns-in-empty : goal.returns-in-empty
+returns-in-empty c = nothing_left _ _ _ c.marks_behind.ensures c.loop-rest.invariant c.in-empty.len_below
 
-pub loop-i-smaller : goal.loop-i-smaller
-loop-i-smaller c = omega (arith, c.next_mark-i-else-is_escape.ensures.onward, c.loop-i-test.true)
+pub returns-in_default : goal.returns-in_default
+returns-in_default c =
+    three_quotes_left _ _ _ c.marks_behind.ensures c.loop-rest.invariant (sym c.three_quotes.ensures ∙ c.if-three_quotes.true)
 
-pub loop-i-preserved : goal.loop-i-preserved
-loop-i-preserved c =
-    let l = c.loop-i in
-    let p = c.next_mark-i-else-is_escape.ensures in
-    let no_quotes = sym c.three_quotes.ensures ∙ c.if-three_quotes.false in
-    let no_escape_lem = sym c.is_escape.ensures ∙ c.if-is_escape.false in
-    (p.within, closing_goes_on _ _ _ p ∙ sym (byte_is_passed _ l.i c.loop-i-test.true no_quotes no_escape_lem) ∙ l.invariant.1)
+pub loop-rest-preserved-then-is_escape : goal.loop-rest-preserved-then-is_escape
+loop-rest-preserved-then-is_escape c =
+    past_escape _ _ _ c.marks_behind.ensures c.loop-rest.invariant c.in_default.len_at_least (sym c.is_escape.ensures.value ∙ c.if-is_escape.true)
 
-pub returns : goal.returns
-returns c = let l = c.loop-i in sym (nothing_closes _ l.i c.loop-i-test.false) ∙ l.invariant.1
+pub loop-rest-preserved : goal.loop-rest-preserved
+loop-rest-preserved c =
+    past_byte _ _ _ c.marks_behind.ensures c.loop-rest.invariant c.in_default.len_at_least
+    (sym c.three_quotes.ensures ∙ c.if-three_quotes.false)
+    (sym c.is_escape.ensures.value ∙ c.if-is_escape.false)

@@ -1,30 +1,23 @@
 -- `read_block::read_block` reads one block string: a text that is not closed reads as nothing, and one that is closed as its source
 -- before the last three bytes.
-use Rattle.std.proofs.Common.{sym, arith, length-take-le}
-use Rattle.std.proofs.Math.Path.{◌∙◌}
-use Rattle.read_block.proofs.Parts.{closed_is_long, not_closed_is_refused, short_is_refused, closed_is_read}
+use Rattle.std.proofs.Common.{sym, ◌∙◌, arith, ◌<◌, length}
+use Rattle.std.proofs.lemmas.List.{take_rest}
+use Rattle.read_block_laws.specs.Closing.{closed_reads}
+use Rattle.read_block.proofs.Parts.{not_closed_is_refused, short_is_refused, closed_is_read}
 use Rattle.read_block.proofs.read_block.Goals as goal
 
-pub returns-then-text-lt3 : goal.returns-then-text-lt3
-returns-then-text-lt3 c =
-    let args = c.args in
-    short_is_refused args.text.now args.out.now c.if-text-lt3.true
+pub returns-in_default : goal.returns-in_default
+returns-in_default c =
+    let h : length c.args.text.now < 3 = omega (arith, c.in_default.ensures.lookup) in
+    short_is_refused _ _ h
 
 pub returns-then-not-is_closed : goal.returns-then-not-is_closed
 returns-then-not-is_closed c =
-    let args = c.args in
-    not_closed_is_refused args.text.now args.out.now (sym c.is_closed.ensures ∙ c.if-not-is_closed.true)
+    not_closed_is_refused c.args.text.now c.in-Some.s.now c.args.out.now (c.in-Some.ensures.lookup.0.2 ∙ take_rest _ 3) (sym c.is_closed.ensures ∙ c.if-not-is_closed.true)
 
-pub overflow_sub-end : goal.overflow_sub-end
-overflow_sub-end c =
-    let args = c.args in
-    closed_is_long args.text.now (sym c.is_closed.ensures ∙ c.if-not-is_closed.false)
-
-pub slice_bounds-read_source-end : goal.slice_bounds-read_source-end
-slice_bounds-read_source-end c = sym (length-take-le _ _ (omega arith))
+pub slice_bounds-read_source-count : goal.slice_bounds-read_source-count
+slice_bounds-read_source-count c = (closed_reads _ (sym c.is_closed.ensures ∙ c.if-not-is_closed.false)).0
 
 pub returns : goal.returns
 returns c =
-    let args = c.args in
-    let closed = sym c.is_closed.ensures ∙ c.if-not-is_closed.false in
-    closed_is_read args.text.now args.out.now closed c.read_source.ensures
+    closed_is_read c.args.text.now c.in-Some.s.now c.args.out.now (c.in-Some.ensures.lookup.0.2 ∙ take_rest _ 3) (sym c.is_closed.ensures ∙ c.if-not-is_closed.false) c.read_source.ensures

@@ -1,96 +1,72 @@
--- `read_block::write_text` writes the text of a source. Once what is left of the source is written, the whole is: a run is written
--- as it stands, an escape as three quotes, and a line end, with the blanks behind it, as LF.
-use Rattle.std.proofs.Math.Path.{◌∙◌}
-use Rattle.std.specs.Prelude.{refl}
-use Rattle.std.proofs.Common.{arith, rules}
-use Rattle.pen.specs.Wrote.{wrote_length, left_all, left_step, left_done, left_as}
-use Rattle.read_block_laws.specs.Text.{run_is_written, escape_is_written, escape_is_within, line_end_is_written, line_end_within, nothing_is_written}
-use Rattle.read_block_laws.specs.Counts.{run_ends_within, run_ends_before}
+-- `read_block::write_text`: a run is written as it stands, an escape as three quotes, and a line end, with the blanks behind it, as LF.
+use Rattle.std.proofs.Common.{◌≡◌, refl, sym, ◌∙◌, ap, true, false, ◌||◌, Bool, arith, ℕ, List, [], ◌∷◌, ◌++◌, min, ◌≤◌, ◌<◌, length, take, drop, length-drop}
+use Rattle.base.specs.Bools.{clash}
+use Rattle.meaning.specs.Ascii.{line_feed, triple_quote}
+use Rattle.meaning.specs.Block.{indent}
+use Rattle.pen.specs.declared.Pen.{Pen}
+use Rattle.pen.specs.Wrote.{Wrote, Left, left_step, left_done, left_as}
+use Rattle.read_block_laws.specs.Unescaped.{escapes}
+use Rattle.read_block_laws.specs.FirstLine.{is_line_end}
+use Rattle.read_block_laws.specs.Text.{stops, run_length, run_text, run_stops, escape_text, line_end_text, nothing_is_written, end_length, end_length_lem, text_of}
+use Rattle.read_block.proofs.Parts.{from, from_is}
 use Rattle.read_block.proofs.write_text.Goals as goal
 
-pub loop-i-init : goal.loop-i-init
-loop-i-init c = (left_all (search rules), refl)
+escape_written : (n : ℕ) (t : List ℕ) → escapes t ≡ true → text_of n t ≡ triple_quote ++ text_of n (from t 4)
+escape_written n [] e = let z : escapes [] ≡ false = unfold escapes in refl in clash e z
+escape_written n (b ∷ t) e = rw (from_is (b ∷ t) 4) (escape_text n b t e)
 
-pub slice_bounds-write-count : goal.slice_bounds-write-count
-slice_bounds-write-count c = omega (arith, c.run_end-e.ensures)
+line_end_written : (n : ℕ) (t u g : List ℕ) → 1 ≤ length t → stops t ≡ true → escapes t ≡ false → u ≡ drop (end_length t) t
+    → g ≡ drop (min n (indent u)) u → text_of n t ≡ (line_feed ∷ []) ++ text_of n g
+unfolding stops
+line_end_written n [] u g h e f p q = absurd (omega arith)
+line_end_written n (b ∷ t) u g h e f p q = rw q (line_end_text n b t u (go (is_line_end b) (rw f at e)) p)
+  where
+    go : (x : Bool) → x || false ≡ true → x ≡ true
+    go true e = refl
+    go false e = e
 
-pub slice_bounds-write-start : goal.slice_bounds-write-start
-slice_bounds-write-start c =
-    let s = c.args.s.now in
-    let w = run_ends_within s c.loop-i.i c.run_end-e.result c.loop-i-test.true c.run_end-e.ensures in
-    search rules
+-- a run r of s is written, behind which t stands
+module _ (n e : ℕ) (s r t w : List ℕ) (p o q : Pen) (a : Left p w o (text_of n s)) (l : e ≡ run_length s) (x : r ≡ take e s) (y : t ≡ drop e s)
+    (v : Wrote o r q) where
+  run_written : Left p w q (text_of n t)
+  run_written =
+      let whole : text_of n s ≡ r ++ text_of n t = rw (x, y, l) (run_text n s) in
+      left_step (left_as a whole) v
 
-pub slice_bounds-write-end : goal.slice_bounds-write-end
-slice_bounds-write-end c =
-    let s = c.args.s.now in
-    let w = run_ends_within s c.loop-i.i c.run_end-e.result c.loop-i-test.true c.run_end-e.ensures in
-    search rules
+  nothing_left : length t < 1 → Wrote p w q
+  nothing_left h = left_done (left_as run_written (nothing_is_written n t 0 (omega (arith, h))))
 
-pub returns-then-e-s : goal.returns-then-e-s
-returns-then-e-s c =
-    let l = c.loop-i in
-    let args = c.args in
-    let s = args.s.now in
-    let e = c.run_end-e.result in
-    let a = left_as l.invariant.0 (run_is_written args.n s l.i e c.run_end-e.ensures) in
-    let over = nothing_is_written args.n s e (omega (arith, c.if-e-s.true)) in
-    left_done (left_as (left_step a c.write-p.ensures) over)
+  module _ (h : 1 ≤ length t) where
+    past_escape : escapes t ≡ true → (z : Pen) → Wrote q triple_quote z → Left p w z (text_of n (from t 4))
+    past_escape f z k = left_step (left_as run_written (escape_written n t f)) k
 
-pub bounds-s-e : goal.bounds-s-e
-bounds-s-e c = run_ends_before _ c.loop-i.i _ c.loop-i-test.true c.run_end-e.ensures c.if-e-s.false
+    there : stops t ≡ true
+    there = rw (y, l) (run_stops s (omega (arith, ap length y, l, length-drop e s)))
 
-pub overflow_add-i : goal.overflow_add-i
-overflow_add-i c =
-    let l = c.loop-i in
-    let s = c.args.s.now in
-    let e = c.run_end-e.result in
-    let r = c.run_end-e.ensures in
-    let more = run_ends_before s l.i e c.loop-i-test.true r c.if-e-s.false in
-    omega (arith, c.ranges, escape_is_within c.args.n s l.i e r more c.if-s-e-eq-BACKSLASH.true)
+    past_line_end : escapes t ≡ false → (u g : List ℕ) → u ≡ drop (end_length t) t → g ≡ drop (min n (indent u)) u
+        → (z : Pen) → Wrote q (line_feed ∷ []) z → Left p w z (text_of n g)
+    past_line_end f u g i j z k = left_step (left_as run_written (line_end_written n t u g h there f i j)) k
 
-pub loop-i-smaller-then-s-e-eq-BACKSLASH : goal.loop-i-smaller-then-s-e-eq-BACKSLASH
-loop-i-smaller-then-s-e-eq-BACKSLASH c = omega (arith, c.run_end-e.ensures, c.loop-i-test.true)
+    shorter : (u g : List ℕ) → u ≡ drop (end_length t) t → g ≡ drop (min n (indent u)) u → length g < length s
+    shorter u g i j =
+        let b = end_length_lem t (omega (arith, h)) in
+        omega (arith, b.0, ap length i, ap length j, ap length y, length-drop (end_length t) t, length-drop (min n (indent u)) u, length-drop e s)
 
-pub loop-i-preserved-then-s-e-eq-BACKSLASH : goal.loop-i-preserved-then-s-e-eq-BACKSLASH
-loop-i-preserved-then-s-e-eq-BACKSLASH c =
-    let l = c.loop-i in
-    let args = c.args in
-    let s = args.s.now in
-    let e = c.run_end-e.result in
-    let r = c.run_end-e.ensures in
-    let more = run_ends_before s l.i e c.loop-i-test.true r c.if-e-s.false in
-    let a = left_step (left_as l.invariant.0 (run_is_written args.n s l.i e r)) c.write-p.ensures in
-    let b = left_as a (escape_is_written args.n s l.i e r more c.if-s-e-eq-BACKSLASH.true) in
-    (left_step b c.write-p-then-s-e-eq-BACKSLASH.ensures, wrote_length c.write-p-then-s-e-eq-BACKSLASH.ensures ∙ wrote_length c.write-p.ensures ∙ l.invariant.1)
+pub returns-in-empty : goal.returns-in-empty
+returns-in-empty c =
+    nothing_left _ _ _ _ _ _ _ _ _ c.loop-others.invariant c.run_length.ensures.value c.split_at.ensures.front c.split_at.ensures.back c.write.ensures c.in-empty.len_below
 
-pub past_line_end-requires : goal.past_line_end-requires
-past_line_end-requires c = run_ends_before _ c.loop-i.i _ c.loop-i-test.true c.run_end-e.ensures c.if-e-s.false
+pub loop-others-preserved-then-is_escape : goal.loop-others-preserved-then-is_escape
+loop-others-preserved-then-is_escape c =
+    past_escape _ _ _ _ _ _ _ _ _ c.loop-others.invariant c.run_length.ensures.value c.split_at.ensures.front c.split_at.ensures.back c.write.ensures
+    c.in_default.len_at_least (sym c.is_escape.ensures.value ∙ c.if-is_escape.true) _ c.write-in_default.ensures
 
-pub loop-i-smaller : goal.loop-i-smaller
-loop-i-smaller c =
-    let l = c.loop-i in
-    let s = c.args.s.now in
-    let e = c.run_end-e.result in
-    let r = c.run_end-e.ensures in
-    let k = line_end_within s e (run_ends_before s l.i e c.loop-i-test.true r c.if-e-s.false) in
-    omega (arith, k.0, r, c.past_line_end.ensures, c.past_indent-i.ensures, c.loop-i-test.true)
+pub loop-others-smaller : goal.loop-others-smaller
+loop-others-smaller c =
+    shorter _ _ _ _ _ _ _ _ _ c.loop-others.invariant c.run_length.ensures.value c.split_at.ensures.front c.split_at.ensures.back c.write.ensures
+    c.in_default.len_at_least _ _ c.past_line_end.ensures c.past_indent-rest.ensures
 
-pub loop-i-preserved : goal.loop-i-preserved
-loop-i-preserved c =
-    let l = c.loop-i in
-    let args = c.args in
-    let s = args.s.now in
-    let r = c.run_end-e.ensures in
-    let f = c.past_line_end in
-    let g = c.past_indent-i in
-    let more = run_ends_before s l.i c.run_end-e.result c.loop-i-test.true r c.if-e-s.false in
-    let a = left_step (left_as l.invariant.0 (run_is_written args.n s l.i c.run_end-e.result r)) c.write-p.ensures in
-    let b = line_end_is_written args.n s l.i _ r more c.if-s-e-eq-BACKSLASH.false f.result g.result f.ensures g.ensures in (
-      left_step (left_as a b) c.write_byte-p.ensures,
-      wrote_length c.write_byte-p.ensures ∙ wrote_length c.write-p.ensures ∙ l.invariant.1,
-    )
-
-pub returns : goal.returns
-returns c =
-    let l = c.loop-i in
-    left_done (left_as l.invariant.0 (nothing_is_written _ _ l.i c.loop-i-test.false))
+pub loop-others-preserved : goal.loop-others-preserved
+loop-others-preserved c =
+    past_line_end _ _ _ _ _ _ _ _ _ c.loop-others.invariant c.run_length.ensures.value c.split_at.ensures.front c.split_at.ensures.back c.write.ensures
+    c.in_default.len_at_least (sym c.is_escape.ensures.value ∙ c.if-is_escape.false) _ _ c.past_line_end.ensures c.past_indent-rest.ensures _ c.write_byte.ensures

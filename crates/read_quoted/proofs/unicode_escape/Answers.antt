@@ -1,40 +1,34 @@
--- Too few bytes are wrong, and four are looked at by their values: each below 16, and the number that they write no surrogate.
-use Rattle.std.proofs.Common.{arith}
-use Rattle.read_quoted.specs.Escapes.{Digits, too_few_digits, first_is_no_digit, second_is_no_digit, third_is_no_digit, fourth_is_no_digit, surrogate_is_wrong, below_surrogates, past_surrogates}
+-- Four bytes are looked at by their values: each has to be a digit's, and the number that they write no surrogate.
+use Rattle.std.proofs.Common.{◌≡◌, arith}
+use Rattle.meaning.specs.Reading.{hex_value}
+use Rattle.read_quoted.proofs.Characters.{no_first, no_second, no_third, no_fourth, number_read}
 use Rattle.read_quoted.proofs.unicode_escape.Goals as goal
-use Rattle.read_quoted.proofs.unicode_escape.Goals.{After-hex_value-d}
 
--- where all four bytes are looked at
-four : (c : After-hex_value-d)
-    → Digits c.args.text.now c.args.at c.hex_value-a.result c.hex_value-b.result c.hex_value-c.result c.hex_value-d.result
-four c = record {
-  room = omega arith;
-  first = c.hex_value-a.ensures;
-  second = c.hex_value-b.ensures;
-  third = c.hex_value-c.ensures;
-  fourth = c.hex_value-d.ensures;
-}
+pub returns-in_err-hex_value-clause-value : goal.returns-in_err-hex_value-clause-value
+returns-in_err-hex_value-clause-value c =
+    rw c.from_residual.ensures (no_first _ _ _ _ (rw c.in_err-hex_value.was at c.hex_value.ensures.value))
 
-pub returns-then-text-at-lt5 : goal.returns-then-text-at-lt5
-returns-then-text-at-lt5 c = too_few_digits _ _ c.requires c.if-text-at-lt5.true
+pub returns-in_err-hex_value-2-clause-value : goal.returns-in_err-hex_value-2-clause-value
+returns-in_err-hex_value-2-clause-value c =
+    rw c.from_residual-in_err-hex_value-2.ensures (no_second _ _ _ _ (rw c.in_err-hex_value-2.was at c.hex_value-2.ensures.value))
 
-pub returns-then-a-gt15 : goal.returns-then-a-gt15
-returns-then-a-gt15 c = first_is_no_digit (four (goal.at.returns-then-a-gt15 c).After-hex_value-d) c.if-a-gt15.true
+pub returns-in_err-hex_value-3-clause-value : goal.returns-in_err-hex_value-3-clause-value
+returns-in_err-hex_value-3-clause-value c =
+    rw c.from_residual-in_err-hex_value-3.ensures (no_third _ _ _ _ (rw c.in_err-hex_value-3.was at c.hex_value-3.ensures.value))
 
-pub returns-then-b-gt15 : goal.returns-then-b-gt15
-returns-then-b-gt15 c = second_is_no_digit (four (goal.at.returns-then-b-gt15 c).After-hex_value-d) c.if-b-gt15.true
+pub returns-in_err-number-clause-value : goal.returns-in_err-number-clause-value
+returns-in_err-number-clause-value c =
+    rw c.from_residual-in_err-number.ensures (no_fourth _ _ _ _ (rw c.in_err-number.was at c.hex_value-4.ensures.value))
 
-pub returns-then-c-gt15 : goal.returns-then-c-gt15
-returns-then-c-gt15 c = third_is_no_digit (four (goal.at.returns-then-c-gt15 c).After-hex_value-d) c.if-c-gt15.true
-
-pub returns-then-d-gt15 : goal.returns-then-d-gt15
-returns-then-d-gt15 c = fourth_is_no_digit (four (goal.at.returns-then-d-gt15 c).After-hex_value-d) c.if-d-gt15.true
-
-pub returns-then-n-lt55296 : goal.returns-then-n-lt55296
-returns-then-n-lt55296 c = below_surrogates (four (goal.at.returns-then-n-lt55296 c).After-hex_value-d) c.if-a-gt15.false c.if-b-gt15.false c.if-c-gt15.false c.if-d-gt15.false c.if-n-lt55296.true
-
-pub returns-then-n-gt57343 : goal.returns-then-n-gt57343
-returns-then-n-gt57343 c = past_surrogates (four (goal.at.returns-then-n-gt57343 c).After-hex_value-d) c.if-a-gt15.false c.if-b-gt15.false c.if-c-gt15.false c.if-d-gt15.false c.if-n-gt57343.true
-
-pub returns : goal.returns
-returns c = surrogate_is_wrong (four (goal.at.returns c).After-hex_value-d) c.if-n-lt55296.false c.if-n-gt57343.false
+pub returns-clause-value : goal.returns-clause-value
+returns-clause-value c =
+    let a : c.in_ok-hex_value.field-0 ≡ hex_value c.args.a = rw c.in_ok-hex_value.was at c.hex_value.ensures.value in
+    let b : c.in_ok-hex_value-2.field-0 ≡ hex_value c.args.b = rw c.in_ok-hex_value-2.was at c.hex_value-2.ensures.value in
+    let d : c.in_ok-hex_value-3.field-0 ≡ hex_value c.args.c = rw c.in_ok-hex_value-3.was at c.hex_value-3.ensures.value in
+    let e : c.in_ok-number.field-0 ≡ hex_value c.args.d = rw c.in_ok-number.was at c.hex_value-4.ensures.value in
+    number_read c.args.a c.args.b c.args.c c.args.d _ c.from_u32.result (omega arith)
+    (rw (← a) (rw c.in_ok-hex_value.was at c.hex_value.ensures.digit))
+    (rw (← b) (rw c.in_ok-hex_value-2.was at c.hex_value-2.ensures.digit))
+    (rw (← d) (rw c.in_ok-hex_value-3.was at c.hex_value-3.ensures.digit))
+    (rw (← e) (rw c.in_ok-number.was at c.hex_value-4.ensures.digit))
+    c.from_u32.ensures.cases c.from_u32.ensures.value

@@ -1,13 +1,10 @@
 -- What is left to store is the numbers from the i-th on, at i.
-use Rattle.std.proofs.Math.Path.{◌≡◌}
-use Rattle.std.specs.Prelude.{length}
-use Prim.Native.Nat.{◌+◌, ◌-◌, ◌*◌, ◌≤◌}
+use Rattle.std.proofs.Common.{◌≡◌, ◌+◌, ◌-◌, ◌*◌, length}
 use Rattle.std.proofs.lemmas.List.Edits.{sets}
 use Rattle.table_file.specs.File.{numbers_at}
 use Rattle.table_file.proofs.store_words.Given as goal
 
 abbrev pub invariant-loop-i : goal.invariant-loop-i
-invariant-loop-i l = (l.i ≤ l.n) × (length l.out ≡ length l.initial.out) × (sets l.out l.i (numbers_at (l.n - l.i) l.file (16 + 4 * l.i)) ≡ sets l.initial.out 0 (numbers_at l.n l.file 16))
-
-abbrev pub decreases-loop-i : goal.decreases-loop-i
-decreases-loop-i l = l.n - l.i
+invariant-loop-i l =
+    (length l.out ≡ length l.initial.out)
+    × (sets l.out l.i (numbers_at (l.n - l.i) l.file (16 + 4 * l.i)) ≡ sets l.initial.out 0 (numbers_at l.n l.file 16))

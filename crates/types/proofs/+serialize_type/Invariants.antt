@@ -1,5 +1,7 @@
--- The depth falls from a list to its type.
+-- A list type's inner type is a later node.
+use Rattle.std.proofs.Common.{◌-◌}
+use Rattle.meaning.specs.Table.{nodes}
 use Rattle.types.proofs.+serialize_type.Given as goal
 
 abbrev pub decreases-serialize_type : goal.decreases-serialize_type
-decreases-serialize_type l = l.depth
+decreases-serialize_type l = nodes l.table.now.words.now - l.node.0

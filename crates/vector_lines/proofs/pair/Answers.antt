@@ -1,30 +1,36 @@
--- Both digits are below 16, since the text is paired, so that the byte fits.
-use Rattle.std.proofs.Common.{arith}
-use Rattle.vector_lines.proofs.Hex.{pair_within, pair_high, pair_low, pair_byte}
+-- Both bytes of the pair are digits.
+use Rattle.std.proofs.Common.{◌≡◌, ◌*◌, ◌+◌, get_or, arith, rules}
+use Rattle.vector_lines.specs.Hex.{digit_of}
+use Rattle.vector_lines.proofs.Hex.{digit_there, pair_within, pair_high, pair_low, pair_byte}
 use Rattle.vector_lines.proofs.pair.Goals as goal
 
-pub overflow_mul-i : goal.overflow_mul-i
-overflow_mul-i c = omega (arith, pair_within c.args.s.now c.args.number c.requires.1)
+pub overflow_mul-number : goal.overflow_mul-number
+overflow_mul-number c = let h = pair_within _ _ c.requires.1 in omega (arith, h)
 
-pub bounds-s-i : goal.bounds-s-i
-bounds-s-i c = omega (arith, pair_within c.args.s.now c.args.number c.requires.1)
+pub bounds-s-number : goal.bounds-s-number
+bounds-s-number c = let h = pair_within _ _ c.requires.1 in omega (arith, h)
 
-pub overflow_add-i : goal.overflow_add-i
-overflow_add-i c = omega (arith, pair_within c.args.s.now c.args.number c.requires.1)
+pub unwrap-high-requires : goal.unwrap-high-requires
+unwrap-high-requires c = rw (digit_there _ (pair_high _ _ c.requires.1 c.requires.0) c.digit.ensures) (search rules)
 
-pub bounds-s-i-2 : goal.bounds-s-i-2
-bounds-s-i-2 c = omega (arith, pair_within c.args.s.now c.args.number c.requires.1)
+pub overflow_mul-number-2 : goal.overflow_mul-number-2
+overflow_mul-number-2 c = let h = pair_within _ _ c.requires.1 in omega (arith, h)
 
-pub overflow_mul-result : goal.overflow_mul-result
-overflow_mul-result c = omega (arith, c.digit-high.ensures, pair_high c.args.s.now c.args.number c.requires.1 c.requires.0)
+pub overflow_add-number : goal.overflow_add-number
+overflow_add-number c = let h = pair_within _ _ c.requires.1 in omega (arith, h)
 
-pub overflow_add-result : goal.overflow_add-result
-overflow_add-result c =
-    let high = pair_high c.args.s.now c.args.number c.requires.1 c.requires.0 in
-    let low = pair_low c.args.s.now c.args.number c.requires.1 c.requires.0 in
-    omega (arith, high, c.digit-high.ensures, low, c.digit-low.ensures)
+pub bounds-s-number-2 : goal.bounds-s-number-2
+bounds-s-number-2 c = pair_within _ _ c.requires.1
+
+pub unwrap-low-requires : goal.unwrap-low-requires
+unwrap-low-requires c = rw (digit_there _ (pair_low _ _ c.requires.1 c.requires.0) c.digit-2.ensures) (search rules)
 
 pub returns : goal.returns
 returns c =
-    let byte = pair_byte c.args.s.now c.args.number c.requires.1 in
-    omega (arith, byte, c.digit-high.ensures, c.digit-low.ensures)
+    let s = c.args.s.now in
+    let n = c.args.number in
+    let high = digit_there _ (pair_high _ _ c.requires.1 c.requires.0) c.digit.ensures in
+    let low = digit_there _ (pair_low _ _ c.requires.1 c.requires.0) c.digit-2.ensures in
+    let x : c.unwrap-high.result ≡ digit_of (get_or s (2 * n) 0) = cc in
+    let y : c.unwrap-low.result ≡ digit_of (get_or s (2 * n + 1) 0) = cc in
+    omega (arith, pair_byte s n c.requires.1)

@@ -1,13 +1,8 @@
 -- What is left to store is the pairs from i on, at i.
-use Rattle.std.proofs.Math.Path.{◌≡◌}
-use Rattle.std.specs.Prelude.{length, drop}
-use Prim.Native.Nat.{◌-◌, ◌≤◌}
+use Rattle.std.proofs.Common.{◌≡◌, length, drop}
 use Rattle.std.proofs.lemmas.List.Edits.{sets}
 use Rattle.vector_lines.specs.Hex.{pairs}
 use Rattle.vector_lines.proofs.store_pairs.Given as goal
 
 abbrev pub invariant-loop-i : goal.invariant-loop-i
-invariant-loop-i l = (l.i ≤ l.n) × (length l.out ≡ length l.initial.out) × (sets l.out l.i (drop l.i (pairs l.s)) ≡ sets l.initial.out 0 (pairs l.s))
-
-abbrev pub decreases-loop-i : goal.decreases-loop-i
-decreases-loop-i l = l.n - l.i
+invariant-loop-i l = (length l.out ≡ length l.initial.out) × (sets l.out l.i (drop l.i (pairs l.s)) ≡ sets l.initial.out 0 (pairs l.s))

@@ -1,9 +1,0 @@
--- Each turn passes a line, so less of the input is left.
-use Rattle.std.proofs.Common.{◌-◌, length}
-use Rattle.replay_literals.proofs.replay.Given as goal
-
-abbrev pub invariant-loop-at : goal.invariant-loop-at
-invariant-loop-at l = Unit {0}
-
-abbrev pub decreases-loop-at : goal.decreases-loop-at
-decreases-loop-at l = length l.input - l.at
