@@ -1,6 +1,6 @@
 -- The parts of rules that definitions share, by name; and which definition may be shorthand.
-use Rattle.std.specs.Prelude.{◌≡◌, refl, Bool, true, ◌&&◌, ◌⊎◌, List, [], ◌∷◌, ◌++◌, ℕ, ◌+◌, eqb}
-use Rattle.std.proofs.Common.{ap, subst, inl, inr}
+use Rattle.std.specs.Prelude.{◌≡◌, refl, Bool, true, ◌&&◌, ◌⊎◌, List, [], ◌∷◌, ◌++◌, ℕ, ◌+◌, ◌≤◌, ◌<◌, eqb}
+use Rattle.std.proofs.Common.{ap, subst, inl, inr, arith}
 use Rattle.meaning.specs.Ascii.{space}
 use Rattle.meaning.specs.Kind as kinds
 use Rattle.meaning.specs.KindNumbers.{kind_number}
@@ -89,3 +89,11 @@ extended_body k (inr (inr (inl e))) = rw e refl
 extended_body k (inr (inr (inr (inl e)))) = rw e refl
 extended_body k (inr (inr (inr (inr (inl e))))) = rw e refl
 extended_body k (inr (inr (inr (inr (inr e))))) = rw e refl
+
+-- ---- numbers of kinds
+
+pub not_zero : {X : Type 0} (k : ℕ) → 1 ≤ k → k < 1 → X
+not_zero k l h = absurd (omega (arith, l, h))
+
+pub above_eleven : (k : ℕ) → 11 ≤ k → (k ≡ 11 → ⊥) → 12 ≤ k
+above_eleven k l n = omega (arith, l, n)

@@ -32,6 +32,26 @@ pub short_told : {w : List ℕ} {i : ℕ} {at : Children} → ChildrenOf w i at 
 unfolding short_at
 short_told c a k v l d = rw (a, k, v, l, d, c.next, c.end) refl
 
+-- the same, test by test
+module _ (w : List ℕ) (i : ℕ) where
+  pub other_kind : {k : ℕ} → k ≡ kind_at w i → (k ≡ 1 → ⊥) → false ≡ short_at w i
+  unfolding short_at
+  other_kind z n = rw (ne_eqb (kind_at w i) 1 (λ y. n (z ∙ y))) refl
+
+  module _ {k : ℕ} (a : k ≡ kind_at w i) (b : k ≡ 1) where
+    pub other_variant : {v : ℕ} → v ≡ variant_at w i → (v ≡ 0 → ⊥) → false ≡ short_at w i
+    unfolding short_at
+    other_variant z n = rw (eq-eqb (kind_at w i) 1 (sym a ∙ b), ne_eqb (variant_at w i) 0 (λ y. n (z ∙ y))) refl
+
+    module _ {v : ℕ} (c : v ≡ variant_at w i) (d : v ≡ 0) where
+      pub named : {l : ℕ} → l ≡ length_at w i → (l ≡ 0 → ⊥) → false ≡ short_at w i
+      unfolding short_at
+      named z n = rw (eq-eqb (kind_at w i) 1 (sym a ∙ b), eq-eqb (variant_at w i) 0 (sym c ∙ d), ne_eqb (length_at w i) 0 (λ y. n (z ∙ y))) refl
+
+      pub selections_tell : {l : ℕ} → l ≡ length_at w i → l ≡ 0 → next_is w selection (i + 1) (end_at w i) ≡ short_at w i
+      unfolding short_at
+      selections_tell z y = rw (eq-eqb (kind_at w i) 1 (sym a ∙ b), eq-eqb (variant_at w i) 0 (sym c ∙ d), eq-eqb (length_at w i) 0 (sym z ∙ y)) refl
+
 module _ {w p : List ℕ} {i : ℕ} (shaped : Shaped w p) (h : i < nodes w) where
   text_tells : is_empty (text_at w p i) ≡ eqb (length_at w i) 0
   text_tells = go (dec_le (length_at w i) 0)

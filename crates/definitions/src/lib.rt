@@ -375,12 +375,13 @@ fn serialize_kind(
 }
 
 // A query with no name, variables or directives.
-fn is_short(printer: &Printer, node: NodeNumber, children: &Children) -> bool
+fn is_short(printer: &Printer, kind: Kind, node: NodeNumber, children: &Children) -> bool
     requires inside { node.0 < nodes (words printer.now) }
+    requires kind { kind_number kind ≡ kind_at (words printer.now) node.0 }
     requires own { ChildrenOf (words printer.now) node.0 children.now }
     ensures { result ≡ short_at (words printer.now) node.0 }
 {
-    let operation = printer.table.kind_number(node) as usize == Kind::Operation.number();
+    let operation = kind == Kind::Operation;
     let query = printer.table.variant(node) == 0;
     let unnamed = printer.table.length(node) == 0;
     operation & (query & (unnamed & children.is_next(&printer.table, Class::Selection)))
@@ -399,11 +400,11 @@ pub fn serialize_definition(
     requires high { kind_at (words printer.now) node.0 ≤ 17 }
     ensures { Wrote pen.old (definition_text (said settings.now) first (tree_at (words printer.now) (pool printer.now) node.0)) pen.new }
 {
+    let kind = printer.table.kind(node);
     let mut children = Children::of(&printer.table, node);
-    if first && is_short(printer, node, &children) {
+    if first && is_short(printer, kind, node, &children) {
         serialize::curly(printer, Class::Selection, &mut children, settings, pen);
     } else {
-        let kind = printer.table.kind(node);
         serialize_kind(printer, kind, node, &mut children, settings, pen);
     }
 }

@@ -1,9 +1,12 @@
 -- What the C interface tells of an answer: its number, its length and, of a reading, its form.
-use Rattle.std.specs.Prelude.{◌≡◌, refl, List, ℕ}
-use Rattle.std.proofs.Common.{sym, subst}
-use Rattle.std.proofs.Math.Option.{Option}
+use Rattle.std.specs.Prelude.{◌≡◌, refl, List, ℕ, Result, Ok, Err}
+use Rattle.std.proofs.Common.{sym, ap, subst, ◌∙◌}
+use Rattle.std.proofs.Math.Option.{Option, some}
 use Rattle.meaning.specs.Reading.{Form}
-use Rattle.meaning.specs.Answers.{Answer}
+use Rattle.meaning.specs.declared.Form.{Form as FormAnswered}
+use Rattle.meaning.specs.declared.Offset.{Offset}
+use Rattle.meaning.specs.declared.Refusal.{Refusal}
+use Rattle.meaning.specs.Answers.{Answer, reading_answer, form_read}
 use Rattle.meaning.specs.Entries.{Outcome}
 use Rattle.numbers.specs.Forms.{form_number}
 
@@ -26,6 +29,18 @@ told_by {o} {a} {d} {n} {l} e f g =
 pub told_form_by : {o : Answer × Option Form × List ℕ} {a : Answer} {m : Option Form} {d : List ℕ} {n l f : ℕ} → (a, m, d) ≡ o → n ≡ a.number → l ≡ a.length → f ≡ form_number m → ToldForm o n l f d
 told_form_by {o} {a} {m} {d} {n} {l} {f} e p q r =
     subst (λ (x : Answer × Option Form × List ℕ). ToldForm x n l f d) e (record { number = p; length = q; form = r; output = refl })
+
+-- an answer of the reader, a refusal or a value
+module _ {o : Answer × Option Form × List ℕ} {r : Result (FormAnswered × Offset) Refusal} {d : List ℕ} (e : ((reading_answer r).0, (reading_answer r).1, d) ≡ o) where
+  pub told_refusal : {w : Refusal} {n l : ℕ} → r ≡ Err w → n ≡ (reading_answer r).0.number → l ≡ (reading_answer r).0.length → ToldForm o n l 0 d
+  told_refusal {w} {n} {l} p f g = told_form_by e f g (sym (ap (λ (x : Result (FormAnswered × Offset) Refusal). form_number (reading_answer x).1) p))
+
+  pub told_value : {f : FormAnswered} {m : Offset} {k : ℕ} → r ≡ Ok (f, m) → k ≡ form_number (some (form_read f)) → ToldForm o 0 m.0 k d
+  told_value {f} {m} {k} p g =
+      told_form_by e
+      (sym (ap (λ (x : Result (FormAnswered × Offset) Refusal). (reading_answer x).0.number) p))
+      (sym (ap (λ (x : Result (FormAnswered × Offset) Refusal). (reading_answer x).0.length) p))
+      (g ∙ sym (ap (λ (x : Result (FormAnswered × Offset) Refusal). form_number (reading_answer x).1) p))
 
 -- a table's answer: its number and its place
 pub record ToldPlace (a : Answer) (n i : ℕ) : Type 0 where

@@ -2,26 +2,68 @@
 // `gateway_c` exports these functions under their names, with these parameters.
 #![tactic(auto)]
 
-ghost use Rattle.std.specs.Prelude.{◌≡◌, eqb};
-ghost use Rattle.meaning.specs.Settings.{settings};
-ghost use Rattle.meaning.specs.Answers.{checked_answer};
+ghost use Rattle.std.specs.Prelude.{◌≡◌};
+ghost use Rattle.meaning.specs.Answers.{checked_answer, printed_answer};
 ghost use Rattle.meaning.specs.Entries.{printed_literal_by_numbers, read_literal, checked_table, checked_document_by_numbers, printed_document_by_numbers};
-ghost use Rattle.settings.specs.Said.{said};
 ghost use Rattle.gateway.specs.Numbers.{Told, ToldForm, ToldPlace, ToldWhole};
+ghost use Rattle.gateway.specs.Switches.{SwitchIs, SettingsAre};
 
-use meaning::Refusal;
+use meaning::{Offset, Refusal};
 use settings::Settings;
 use table::Table;
 
-// The settings that numbers say.
-fn settings_of<'a>(breaks: u32, prefix: &'a [u8], level: u64) -> Settings<'a>
-    ensures { said result ≡ settings (eqb breaks 1) prefix.entry.now level }
+// A yes-or-no number: one that is neither 0 nor 1 is refused.
+fn switch(number: u32) -> Result<bool, Refusal>
+    ensures { SwitchIs number result }
 {
-    Settings {
-        breaks: breaks == 1,
+    match number {
+        0 => Ok(false),
+        1 => Ok(true),
+        _ => Err(Refusal::Settings),
+    }
+}
+
+// The settings that numbers say.
+fn settings_of<'a>(breaks: u32, prefix: &'a [u8], level: u64) -> Result<Settings<'a>, Refusal>
+    ensures { SettingsAre breaks prefix.entry.now level result }
+{
+    Ok(Settings {
+        breaks: switch(breaks)?,
         prefix,
         level: level as usize,
-    }
+    })
+}
+
+fn print_literal(
+    value: &[u8],
+    description: u32,
+    breaks: u32,
+    prefix: &[u8],
+    level: u64,
+    out: &mut [u8],
+) -> Result<Offset, Refusal>
+    ensures { (printed_answer result, out.new) ≡ printed_literal_by_numbers breaks prefix.now level description value.now out.old }
+{
+    let settings = settings_of(breaks, prefix, level)?;
+    literal::print_literal(value, switch(description)?, &settings, out)
+}
+
+fn check_document(breaks: u32, prefix: &[u8], level: u64, table: &Table) -> Result<(), Refusal>
+    ensures { checked_answer result ≡ checked_document_by_numbers breaks prefix.now level table.now.words.now table.now.pool.now }
+{
+    check_table::check_document(&settings_of(breaks, prefix, level)?, table)
+}
+
+fn print_document(
+    breaks: u32,
+    prefix: &[u8],
+    level: u64,
+    table: &Table,
+    out: &mut [u8],
+) -> Result<Offset, Refusal>
+    ensures { (printed_answer result, out.new) ≡ printed_document_by_numbers breaks prefix.now level table.now.words.now table.now.pool.now out.old }
+{
+    document::print_document(&settings_of(breaks, prefix, level)?, table, out)
 }
 
 pub fn dervisclo_print_literal(
@@ -35,12 +77,7 @@ pub fn dervisclo_print_literal(
 ) -> u32
     ensures { Told (printed_literal_by_numbers breaks prefix.now level description value.now out.old) result length.new out.new }
 {
-    if 1 < breaks || 1 < description {
-        *length = 0;
-        return 1;
-    }
-    let settings = settings_of(breaks, prefix, level);
-    match literal::print_literal(value, description == 1, &settings, out) {
+    match print_literal(value, description, breaks, prefix, level, out) {
         Ok(n) => {
             *length = n.0 as u64;
             0
@@ -103,13 +140,8 @@ pub fn dervisclo_check_document(
 ) -> u32
     ensures { ToldPlace (checked_document_by_numbers breaks prefix.now level words.now pool.now) result place.new }
 {
-    if breaks > 1 {
-        *place = 0;
-        return 1;
-    }
-    let settings = settings_of(breaks, prefix, level);
     tell(
-        check_table::check_document(&settings, &Table { words, pool }),
+        check_document(breaks, prefix, level, &Table { words, pool }),
         place,
     )
 }
@@ -127,13 +159,7 @@ pub fn dervisclo_print_document(
 ) -> u32
     ensures { ToldWhole (printed_document_by_numbers breaks prefix.now level words.now pool.now out.old) result place.new length.new out.new }
 {
-    if 1 < breaks {
-        *place = 0;
-        *length = 0;
-        return 1;
-    }
-    let settings = settings_of(breaks, prefix, level);
-    match document::print_document(&settings, &Table { words, pool }, out) {
+    match print_document(breaks, prefix, level, &Table { words, pool }, out) {
         Ok(n) => {
             *place = 0;
             *length = n.0 as u64;

@@ -1,10 +1,11 @@
 -- `put d i t`: the list d with t stored from place i on, and what falls past the end left out. Storing one text and then another
 -- is storing both, and no law but `put_in_room` asks for room.
-use Rattle.std.specs.Prelude.{◌≡◌, refl, List, [], ◌∷◌, ◌++◌, ℕ, suc, min, ◌-◌, ◌+◌, ◌^◌, ◌≤◌, length, take, drop, set}
-use Rattle.std.proofs.Common.{sym, ◌∙◌, add-zero, add-suc, suc-add, add-one, arith, length-set, drop_of_length-le, take_all, length-take-le, take-append-drop, append_assoc, append-nil}
+use Rattle.std.specs.Prelude.{◌≡◌, refl, List, [], ◌∷◌, ◌++◌, ℕ, suc, min, ◌-◌, ◌+◌, ◌^◌, ◌≤◌, ◌<◌, length, take, drop, get_or, set}
+use Rattle.std.proofs.Common.{sym, ◌∙◌, add-zero, add-suc, suc-add, add_assoc, add-one, arith, length-set, drop_of_length-le, take_all, length-take-le, take-append-drop, append_assoc, append-nil}
 use Rattle.std.proofs.Math.Decide.{dec_le}
 use Rattle.std.proofs.Math.Seq.{set_out}
 use Rattle.std.proofs.lemmas.List.Edits.{sets, sets-eq}
+use Rattle.pen.specs.Lists.{drop_one}
 
 -- the greatest place: one that would pass it stays there
 abbrev pub last : ℕ
@@ -58,9 +59,13 @@ put_last d i t h = go (dec_le i last)
     go (yes k) = let e : min i last ≡ i = omega arith in rw e
     go (no k) = put_past t d (min i last) (omega arith) ∙ sym (put_past t d i (omega arith))
 
--- a text stored byte by byte: nothing yet, and the end, of the text or of the list
+-- a text stored byte by byte: nothing yet, one byte more, and the end, of the text or of the list
 pub store_none : (d : List ℕ) (i : ℕ) (t : List ℕ) → put d (i + 0) (drop 0 t) ≡ put d i t
 store_none d i t = rw add-zero
+
+pub store_one : (d : List ℕ) (i : ℕ) (t : List ℕ) (k : ℕ) → k < length t
+    → put (set d (i + k) (get_or t k 0)) (i + (k + 1)) (drop (k + 1) t) ≡ put d (i + k) (drop k t)
+store_one d i t k h = rw (drop_one t k h, ← add_assoc) (put_first d (i + k) (get_or t k 0) (drop (k + 1) t))
 
 pub store_done : (d : List ℕ) (i : ℕ) (t : List ℕ) (k : ℕ) → min (length t) (length d - i) ≤ k → put d (i + k) (drop k t) ≡ d
 store_done d i t k h = go (dec_le (length t) k)

@@ -160,3 +160,12 @@ module _ (s : List ℕ) (i : ℕ) (h : i < length s) where
         within = omega (arith, length-drop i s);
         means = lettered b n e ∙ rw (ne_eqb b 0 z) (ap (λ (t : List ℕ). character t 1) (sym (in_one_byte b small)));
       }
+
+-- ---- the answer taken apart
+
+pub answered_scalar : {s : List ℕ} {front : Front} {r : Option (ℕ × Bor (List ℕ))} {n : ℕ} {rest : Bor (List ℕ)} → EscapedIs s front r → r ≡ Some (n, rest)
+    → (k : ℕ) × (Stands s front n k × (rest.now ≡ drop k s))
+answered_scalar h e = rw e at h
+
+pub answered_wrong : (s : List ℕ) {front : Front} {r : Option (ℕ × Bor (List ℕ))} → EscapedIs s front r → r ≡ None → front ≡ wrong
+answered_wrong s h e = rw e at h

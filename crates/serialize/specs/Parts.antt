@@ -1,8 +1,8 @@
 -- What doing the parts of a node's rule asks, and what is left to ask once some are done.
-use Rattle.std.specs.Prelude.{◌≡◌, Bool, List, [], ◌∷◌, ℕ, ◌+◌, ◌-◌, ◌*◌, ◌<◌, if◌then◌else◌}
-use Rattle.std.proofs.Common.{refl, ap, ◌∙◌, arith}
+use Rattle.std.specs.Prelude.{◌≡◌, Bool, true, false, List, [], ◌∷◌, ℕ, ◌+◌, ◌-◌, ◌*◌, ◌<◌, if◌then◌else◌}
+use Rattle.std.proofs.Common.{refl, sym, ap, subst, ◌∙◌, arith}
 use Rattle.meaning.specs.Ascii.{ascii}
-use Rattle.meaning.specs.Settings.{Settings as SettingsSaid, on_single_line}
+use Rattle.meaning.specs.Settings.{Settings as SettingsSaid, deeper, on_single_line}
 use Rattle.meaning.specs.Table.{nodes, end_at}
 use Rattle.meaning.specs.Children.{Class, rest, run, past}
 use Rattle.meaning.specs.Rules.{Part, as_here, single_line, single_line_unless_marked, one, spaced, comma_separated, curly_brackets}
@@ -37,6 +37,20 @@ children_fewer ok j c = omega (arith, c.next, c.end, ok.above _ j.inside)
 pub parts_below : {w p : List ℕ} {n l t : ℕ} {at : Children} → Shaped w p → Job w p n l → ChildrenOf w n at → 8 * (end_at w n - n) ≡ t
     → (8 * (at.end.0 - at.next.0) + 6 < t) × Parts w p n at l
 parts_below ok j c m = (omega (arith, m, children_fewer ok j c), parts_of_lem ok j c)
+
+-- ---- the levels of settings
+
+pub jobs_deeper : {w p : List ℕ} {at : Children} (s : SettingsSaid) {r : SettingsSaid} → Jobs w p at (s.level + 1) → r ≡ deeper s → Jobs w p at r.level
+jobs_deeper {w} {p} {at} s j z = subst (λ (l : ℕ). Jobs w p at l) (sym (ap (λ (x : SettingsSaid). x.level) z)) j
+
+pub jobs_single : {w p : List ℕ} {at : Children} (s : SettingsSaid) {r : SettingsSaid} → Jobs w p at (s.level + 1) → r ≡ on_single_line s
+    → Jobs w p at (r.level + 1)
+jobs_single {w} {p} {at} s j z = subst (λ (l : ℕ). Jobs w p at (l + 1)) (sym (ap (λ (x : SettingsSaid). x.level) z)) j
+
+pub jobs_lines : {w p : List ℕ} {at : Children} (s : SettingsSaid) {r : SettingsSaid} (b : Bool) → Jobs w p at (s.level + 1)
+    → r ≡ (if b then s else on_single_line s) → Jobs w p at (r.level + 1)
+jobs_lines {w} {p} {at} s true j z = subst (λ (l : ℕ). Jobs w p at (l + 1)) (sym (ap (λ (x : SettingsSaid). x.level) z)) j
+jobs_lines s false j z = jobs_single s j z
 
 -- ---- parts that are lists of children
 

@@ -8,7 +8,7 @@ use Rattle.tree_laws.specs.Forest.{Shaped, Range}
 use Rattle.meaning.specs.Children.{Class, starts, rest, run, past}
 use Rattle.meaning.specs.Layout.{Child, child_in, first_said, each, in_braces, in_commas}
 use Rattle.pen.specs.declared.Pen.{Pen}
-use Rattle.pen.specs.Wrote.{Wrote, Left, wrote_none, left_as, left_step, left_done, ◌⨾◌}
+use Rattle.pen.specs.Wrote.{Wrote, Left, wrote_none, left_all, left_as, left_step, left_done, ◌⨾◌}
 use Rattle.layout.specs.declared.Children.{Children}
 use Rattle.layout.specs.Kids.{kids, next_is}
 use Rattle.layout.specs.Written.{last_comma}
@@ -59,6 +59,16 @@ pub record Run (w p : List ℕ) (s : Settings) (before : List ℕ) (c : Class) (
   pub todo :
       Left o (each before s (run child_in c (kids w p from.next.0 from.end.0))) q (each before s (run child_in c (kids w p at.next.0 at.end.0)))
 
+pub run_all : {w p : List ℕ} {s : Settings} {before : List ℕ} {c : Class} {l : ℕ} {at : Children} {o : Pen} → Jobs w p at l
+    → Run w p s before c l at o at o
+run_all j = record { jobs = j; onward = λ {h} x. x; end = refl; order = omega arith; same = refl; todo = left_all }
+
+-- a turn leaves fewer children
+pub fewer_left : {w p : List ℕ} (ok : Shaped w p) (c : Class) {at : Children} → Range w at.next.0 at.end.0 → {t : List ℕ} {a : Pen} {r : Children} {b : Pen}
+    → next_is w c at.next.0 at.end.0 ≡ true → Walked w p t (rest child_in (kids w p at.next.0 at.end.0)) at a r b
+    → length (kids w p r.next.0 r.end.0) < length (kids w p at.next.0 at.end.0)
+fewer_left {w} {p} ok c {at} j z y = rw y.left (shorter c (kids w p at.next.0 at.end.0) (starts_next (ranged ok j) c ∙ z))
+
 module _ {w p : List ℕ} {s : Settings} {before : List ℕ} {c : Class} {l : ℕ} {from : Children} {o : Pen} {at : Children} {q : Pen}
     (ok : Shaped w p) (x : Run w p s before c l from o at q) where
   pub run_turn : {a : Pen} {r : Children} {b : Pen} → next_is w c at.next.0 at.end.0 ≡ true → Wrote q before a
@@ -76,12 +86,6 @@ module _ {w p : List ℕ} {s : Settings} {before : List ℕ} {c : Class} {l : �
         todo = left_as (left_step (left_step (left_as x.todo (one_said c before s m f)) k) y.wrote)
             (ap (λ (ks : List Child). each before s (run child_in c ks)) (sym y.left));
       }
-
-  -- a turn leaves fewer children
-  pub fewer_left : {t : List ℕ} {a : Pen} {r : Children} {b : Pen} → next_is w c at.next.0 at.end.0 ≡ true
-      → Walked w p t (rest child_in (kids w p at.next.0 at.end.0)) at a r b
-      → length (kids w p r.next.0 r.end.0) < length (kids w p at.next.0 at.end.0)
-  fewer_left z y = rw y.left (shorter c (kids w p at.next.0 at.end.0) (starts_next (ranged ok x.jobs.range) c ∙ z))
 
   pub run_over : next_is w c at.next.0 at.end.0 ≡ false
       → Walked w p (each before s (run child_in c (kids w p from.next.0 from.end.0))) (past child_in c (kids w p from.next.0 from.end.0)) from o at q

@@ -65,8 +65,8 @@ fn store_words(file: &[u8], n: usize, out: &mut [u32])
     requires { (16 + 4 * n ≤ length file.now) × (n ≤ length out.old) }
     ensures { out.new ≡ numbers_at n file.now 16 ++ drop n out.old }
 {
-    for i in 0..n {
-        out[i] = number(file, 16 + 4 * i);
+    for (i, word) in out[..n].iter_mut().enumerate() {
+        *word = number(file, 16 + 4 * i);
     }
 }
 

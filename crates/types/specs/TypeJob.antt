@@ -15,7 +15,7 @@ use Rattle.tree_laws.specs.Forest.{Shaped, children_range}
 use Rattle.tree_laws.specs.Lists.{ListsHoldTypes}
 use Rattle.table.specs.Words.{InTable, TextInPool}
 use Rattle.layout.specs.declared.Children.{Children}
-use Rattle.layout.specs.Jobs.{inside, in_table, has_text}
+use Rattle.layout.specs.Jobs.{Job, Ranged, ranged, inside, in_table, has_text}
 use Rattle.layout.specs.Did.{Did, ◌⨾◌, did_part, did_tokens, did_name, node_written}
 use Rattle.layout.specs.Child.{one_printed}
 
@@ -24,6 +24,9 @@ pub record TypeJob (w p : List ℕ) (i : ℕ) : Type 0 where
   pub lists : ListsHoldTypes w
   pub inside : i < nodes w
   pub is_type : is_in type (kind_at w i) (variant_at w i) ≡ true
+
+pub type_job : {w p : List ℕ} {i l : ℕ} → Shaped w p → ListsHoldTypes w → Job w p i l → is_in type (kind_at w i) (variant_at w i) ≡ true → TypeJob w p i
+type_job s l j k = record { shaped = s; lists = l; inside = j.inside; is_type = k }
 
 module _ {w p : List ℕ} {i : ℕ} (j : TypeJob w p i) where
   pub node_of : InTable w i
@@ -45,6 +48,9 @@ module _ {w p : List ℕ} {i : ℕ} (j : TypeJob w p i) where
       omega (arith, a, b, n)
 
   module _ (k : kind_at w i ≡ Kind.list_type) where
+    pub inner_range : Ranged w p (i + 1) (end_at w i)
+    inner_range = ranged j.shaped (children_range j.shaped i j.inside)
+
     pub inner_there : i + 1 < end_at w i
     inner_there = j.lists.inside i j.inside k
 

@@ -47,7 +47,8 @@ pub fn past(s: &[u8], from: usize, stop: u8) -> usize
     if end < s.len() { end + 1 } else { s.len() }
 }
 
-// The field of this number, from 0 on; nothing where the line has no such field.
+// The field of this number, from 0 on; nothing where the line has no such field. By place, here and below, since what `part` and `past` say is
+// what a field is.
 pub fn field(line: &[u8], number: usize) -> &[u8]
     ensures { result.now ≡ field_of number line.now }
 {
@@ -122,8 +123,8 @@ fn store_pairs(s: &[u8], out: &mut [u8])
     requires { (paired s.now ≡ true) × (length (pairs s.now) ≤ length out.old) }
     ensures { out.new ≡ pairs s.now ++ drop (length (pairs s.now)) out.old }
 {
-    for i in 0..s.len() / 2 {
-        out[i] = pair(s, i);
+    for (i, byte) in out[..s.len() / 2].iter_mut().enumerate() {
+        *byte = pair(s, i);
     }
 }
 
@@ -182,8 +183,8 @@ fn store_words(s: &[u8], n: usize, out: &mut [u32])
     ensures { out.new ≡ words_of n s.now ++ drop n out.old }
 {
     let mut at = 0;
-    for i in 0..n {
-        out[i] = word(part(s, at, b',')).unwrap();
+    for stored in out[..n].iter_mut() {
+        *stored = word(part(s, at, b',')).unwrap();
         at = past(s, at, b',');
     }
 }

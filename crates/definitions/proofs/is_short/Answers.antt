@@ -1,11 +1,10 @@
 -- `definitions::is_short` meets its contract: each test tells.
-use Rattle.std.proofs.Common.{ap, eqb}
+use Rattle.std.proofs.Common.{rules}
+use Rattle.meaning.specs.declared.kind.Kind.TheVariants.{Operation}
+use Rattle.table.specs.Kinds.{same_kind}
 use Rattle.layout.specs.Jobs.{in_table, within, own_children}
 use Rattle.definitions.specs.Short.{short_told}
 use Rattle.definitions.proofs.is_short.Goals as goal
-
-pub kind_number-requires : goal.kind_number-requires
-kind_number-requires c = in_table c.args.printer.now.shaped c.requires.inside
 
 pub variant-query-requires : goal.variant-query-requires
 variant-query-requires c = in_table c.args.printer.now.shaped c.requires.inside
@@ -18,5 +17,5 @@ is_next-requires c = within c.args.printer.now.shaped (own_children c.args.print
 
 pub returns : goal.returns
 returns c =
-    short_told c.requires.own (ap (λ n. eqb c.kind_number.result n) c.number.ensures) c.kind_number.ensures c.variant-query.ensures.is c.length-unnamed.ensures.is
-    c.is_next.ensures
+    let told = same_kind c.args.kind Operation c.eq-operation.result (λ e. search rules) (λ e. search rules) in
+    short_told c.requires.own told c.requires.kind c.variant-query.ensures.is c.length-unnamed.ensures.is c.is_next.ensures

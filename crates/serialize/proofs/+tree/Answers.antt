@@ -11,6 +11,7 @@ use Rattle.layout.specs.Child.{one_printed, no_one}
 use Rattle.layout.specs.Did.{◌⨾◌, did_tokens, did_name, did_literal, a_child, no_child, node_written, jobs_walked}
 use Rattle.pen.specs.Wrote.{wrote_as, wrote_none}
 use Rattle.layout.specs.Jobs.{in_table, ranged, first_job, here}
+use Rattle.layout.specs.Classes.{meant}
 use Rattle.layout.specs.Read.{words, pool}
 use Rattle.serialize.specs.Kinds.{type_kind, argument_kind, name_kind, no_kind}
 use Rattle.serialize.specs.Walks.{run_turn, run_over, fewer_left, commas_some, commas_none, braces_some, braces_none, nothing_said}
@@ -35,7 +36,7 @@ one-returns-else-children t c = no_one _ c.if-children.false
 
 pub each-loop-class-smaller : goal.each-loop-class-smaller
 each-loop-class-smaller t c =
-    fewer_left c.args.printer.now.shaped c.loop-class.invariant (sym c.is_next.ensures ∙ c.loop-class-test.true) c.one.ensures
+    fewer_left c.args.printer.now.shaped (meant c.args.class) c.loop-class.invariant.jobs.range (sym c.is_next.ensures ∙ c.loop-class-test.true) c.one.ensures
 
 pub each-loop-class-preserved : goal.each-loop-class-preserved
 each-loop-class-preserved t c =

@@ -6,5 +6,5 @@ use Rattle.table_file.proofs.store_words.Given as goal
 
 abbrev pub invariant-loop-i : goal.invariant-loop-i
 invariant-loop-i l =
-    (length l.out ≡ length l.initial.out)
-    × (sets l.out l.i (numbers_at (l.n - l.i) l.file (16 + 4 * l.i)) ≡ sets l.initial.out 0 (numbers_at l.n l.file 16))
+    (length l.word-items ≡ length l.initial.word-items)
+    × (sets l.word-items l.i (numbers_at (l.n - l.i) l.file (16 + 4 * l.i)) ≡ sets l.initial.word-items 0 (numbers_at l.n l.file 16))

@@ -5,4 +5,5 @@ use Rattle.vector_lines.specs.Hex.{pairs}
 use Rattle.vector_lines.proofs.store_pairs.Given as goal
 
 abbrev pub invariant-loop-i : goal.invariant-loop-i
-invariant-loop-i l = (length l.out ≡ length l.initial.out) × (sets l.out l.i (drop l.i (pairs l.s)) ≡ sets l.initial.out 0 (pairs l.s))
+invariant-loop-i l =
+    (length l.byte-items ≡ length l.initial.byte-items) × (sets l.byte-items l.i (drop l.i (pairs l.s)) ≡ sets l.initial.byte-items 0 (pairs l.s))

@@ -4,8 +4,8 @@ use Rattle.std.proofs.lemmas.List.Edits.{sets}
 use Rattle.vector_lines.specs.Words.{are_words, words_of}
 use Rattle.vector_lines.proofs.store_words.Given as goal
 
-abbrev pub invariant-loop-i : goal.invariant-loop-i
-invariant-loop-i l =
-    (length l.out ≡ length l.initial.out)
-    × (are_words (l.n - l.i) (drop l.at l.s) ≡ true)
-    × (sets l.out l.i (words_of (l.n - l.i) (drop l.at l.s)) ≡ sets l.initial.out 0 (words_of l.n l.s))
+abbrev pub invariant-loop-stored : goal.invariant-loop-stored
+invariant-loop-stored l =
+    (length l.stored-items ≡ length l.initial.stored-items)
+    × (are_words (l.n - l.stored-index) (drop l.at l.s) ≡ true)
+    × (sets l.stored-items l.stored-index (words_of (l.n - l.stored-index) (drop l.at l.s)) ≡ sets l.initial.stored-items 0 (words_of l.n l.s))
