@@ -17,8 +17,8 @@
  * overlaps nothing else that is passed; no slice is over PTRDIFF_MAX bytes. Nothing is asked of what the bytes and
  * words are.
  *
- * Nothing is allocated, and no state is kept between calls. Of the stack, runs saw 128 KiB taken by the printing of a
- * document, 65 KiB by the checks and 1 KiB by a literal; they fail past 144, 80 and 4 KiB (docs/ABUSE.md).
+ * Nothing is allocated, and no state is kept between calls. Of the stack, runs saw 66 KiB taken by the printing of a
+ * document and by the checks, and 1 KiB by a literal; they fail past 144, 80 and 4 KiB (docs/ABUSE.md).
  */
 #ifndef DERVISCLO_H
 #define DERVISCLO_H

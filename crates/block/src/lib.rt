@@ -35,6 +35,7 @@ fn skip_without(value: &[u8], from: usize, a: u8, b: u8) -> usize
 }
 
 // The first `a` or `b` from `from` on, or the end.
+#[inline(always)]
 fn find_either(value: &[u8], from: usize, a: u8, b: u8) -> usize
     requires { from ≤ length value.now }
     ensures { First (byte_that (is_either a b)) value.now from result }
@@ -46,6 +47,7 @@ fn find_either(value: &[u8], from: usize, a: u8, b: u8) -> usize
 }
 
 // The first `byte` from `from` on, or the end.
+#[inline(always)]
 fn find(value: &[u8], from: usize, byte: u8) -> usize
     requires { from ≤ length value.now }
     ensures { First (byte_that (is byte)) value.now from result }
@@ -126,6 +128,7 @@ fn find_triple_quote(line: &[u8], from: usize) -> usize
 }
 
 // The bytes of a line, with a backslash before each three quotes.
+#[inline(always)]
 fn serialize_line(line: &[u8], pen: &mut Pen)
     ensures { Wrote pen.old (escaped_line line.now) pen.new }
 {
@@ -143,6 +146,7 @@ fn serialize_line(line: &[u8], pen: &mut Pen)
 }
 
 // A line break and the line. An empty line gets no indent, which would be trailing whitespace.
+#[inline(always)]
 fn write_line(line: &[u8], settings: &Settings, pen: &mut Pen)
     ensures { Wrote pen.old (block_line (times settings.now.level settings.now.prefix.now) line.now) pen.new }
 {

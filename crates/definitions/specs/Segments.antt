@@ -7,7 +7,7 @@ use Rattle.meaning.specs.KindNumbers.{kind_number}
 use Rattle.meaning.specs.declared.kind.Kind.{Kind}
 use Rattle.meaning.specs.declared.kind.Kind.TheVariants.{Scalar, Object, Interface, Union, Enum, InputObject, ExtendScalar, ExtendObject, ExtendInterface, ExtendUnion, ExtendEnum, ExtendInputObject}
 use Rattle.meaning.specs.Settings.{Settings}
-use Rattle.meaning.specs.Table.{kind_at, variant_at, length_at, end_at}
+use Rattle.meaning.specs.Table.{kind_at, variant_at, length_at}
 use Rattle.meaning.specs.Children.{Class, a, selection, run, past}
 use Rattle.meaning.specs.Rules.{Part, child, separated, name, implements, directives, braces, optional_braces, description, extend, scalar, object_like, union, enum, input_object, rule_of}
 use Rattle.meaning.specs.Layout.{Child, child_in, each, part_text, part_rest}
@@ -41,10 +41,10 @@ body InputObject = input_object
 body ExtendInputObject = input_object
 body _ = []
 
--- node i may be shorthand: by the words alone
-unfoldable pub short_at : List ℕ → ℕ → Bool
-unfolding kind_at variant_at length_at end_at next_is
-short_at w i = eqb (kind_at w i) kinds.operation && (eqb (variant_at w i) 0 && (eqb (length_at w i) 0 && next_is w selection (i + 1) (end_at w i)))
+-- node i, which ends at e, may be shorthand: by the words alone
+unfoldable pub short_at : List ℕ → ℕ → ℕ → Bool
+unfolding kind_at variant_at length_at next_is
+short_at w i e = eqb (kind_at w i) kinds.operation && (eqb (variant_at w i) 0 && (eqb (length_at w i) 0 && next_is w selection (i + 1) e))
 
 -- ---- parts
 

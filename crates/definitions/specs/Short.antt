@@ -28,27 +28,27 @@ no_shorthand false b (inr e) = refl
 -- the tests of the code
 pub short_told : {w : List ℕ} {i : ℕ} {at : Children} → ChildrenOf w i at → {a d : Bool} {k v l : ℕ} → a ≡ eqb k Kind.operation → k ≡ kind_at w i
     → v ≡ variant_at w i → l ≡ length_at w i → d ≡ next_is w selection at.next.0 at.end.0
-    → a && (eqb v 0 && (eqb l 0 && d)) ≡ short_at w i
+    → a && (eqb v 0 && (eqb l 0 && d)) ≡ short_at w i (end_at w i)
 unfolding short_at
 short_told c a k v l d = rw (a, k, v, l, d, c.next, c.end) refl
 
 -- the same, test by test
-module _ (w : List ℕ) (i : ℕ) where
-  pub other_kind : {k : ℕ} → k ≡ kind_at w i → (k ≡ 1 → ⊥) → false ≡ short_at w i
+module _ (w : List ℕ) (i e : ℕ) where
+  pub other_kind : {k : ℕ} → k ≡ kind_at w i → (k ≡ 1 → ⊥) → false ≡ short_at w i e
   unfolding short_at
   other_kind z n = rw (ne_eqb (kind_at w i) 1 (λ y. n (z ∙ y))) refl
 
   module _ {k : ℕ} (a : k ≡ kind_at w i) (b : k ≡ 1) where
-    pub other_variant : {v : ℕ} → v ≡ variant_at w i → (v ≡ 0 → ⊥) → false ≡ short_at w i
+    pub other_variant : {v : ℕ} → v ≡ variant_at w i → (v ≡ 0 → ⊥) → false ≡ short_at w i e
     unfolding short_at
     other_variant z n = rw (eq-eqb (kind_at w i) 1 (sym a ∙ b), ne_eqb (variant_at w i) 0 (λ y. n (z ∙ y))) refl
 
     module _ {v : ℕ} (c : v ≡ variant_at w i) (d : v ≡ 0) where
-      pub named : {l : ℕ} → l ≡ length_at w i → (l ≡ 0 → ⊥) → false ≡ short_at w i
+      pub named : {l : ℕ} → l ≡ length_at w i → (l ≡ 0 → ⊥) → false ≡ short_at w i e
       unfolding short_at
       named z n = rw (eq-eqb (kind_at w i) 1 (sym a ∙ b), eq-eqb (variant_at w i) 0 (sym c ∙ d), ne_eqb (length_at w i) 0 (λ y. n (z ∙ y))) refl
 
-      pub selections_tell : {l : ℕ} → l ≡ length_at w i → l ≡ 0 → next_is w selection (i + 1) (end_at w i) ≡ short_at w i
+      pub selections_tell : {l : ℕ} → l ≡ length_at w i → l ≡ 0 → next_is w selection (i + 1) e ≡ short_at w i e
       unfolding short_at
       selections_tell z y = rw (eq-eqb (kind_at w i) 1 (sym a ∙ b), eq-eqb (variant_at w i) 0 (sym c ∙ d), eq-eqb (length_at w i) 0 (sym z ∙ y)) refl
 
@@ -60,17 +60,17 @@ module _ {w p : List ℕ} {i : ℕ} (shaped : Shaped w p) (h : i < nodes w) wher
       go (yes l) = let z : length_at w i ≡ 0 = omega arith in no_text_there w p i refl z ∙ sym (eq-eqb (length_at w i) 0 z)
       go (no l) = let n : length_at w i ≡ 0 → ⊥ = λ z. l (omega (arith, z)) in text_there w p i (has_text shaped h) refl n ∙ sym (ne_eqb (length_at w i) 0 n)
 
-  short_is : is_short (head_at w p i) (kids w p (i + 1) (end_at w i)) ≡ short_at w i
+  short_is : is_short (head_at w p i) (kids w p (i + 1) (end_at w i)) ≡ short_at w i (end_at w i)
   unfolding is_short short_at head_at
   short_is = rw (text_tells, starts_next (ranged shaped (children_range shaped i h)) selection) refl
 
   module _ (s : Settings) {at : Children} {o : Pen} {r : Children} {q : Pen} (c : ChildrenOf w i at) where
-    pub long_definition : (first : Bool) {k : ℕ} → first && short_at w i ≡ false → k ≡ kind_at w i → Did w p s i (rule_of k) at o r q
+    pub long_definition : (first : Bool) {k : ℕ} → first && short_at w i (end_at w i) ≡ false → k ≡ kind_at w i → Did w p s i (rule_of k) at o r q
         → Wrote o (definition_text s first (tree_at w p i)) q
     unfolding definition_text tree_at kids head_at
     long_definition first x k y = wrote_as y.walked.wrote (rw (c.next, c.end, k) (sym (rw (short_is, x) refl)))
 
-    pub short_definition : (first : Bool) → first && short_at w i ≡ true
+    pub short_definition : (first : Bool) → first && short_at w i (end_at w i) ≡ true
         → Walked w p (in_braces s (run child_in selection (kids w p at.next.0 at.end.0))) (past child_in selection (kids w p at.next.0 at.end.0)) at o r q
         → Wrote o (definition_text s first (tree_at w p i)) q
     unfolding definition_text tree_at kids head_at shorthand

@@ -4,7 +4,7 @@
 ghost use Rattle.std.specs.Prelude.{◌≡◌, true, ◌&&◌, List, [], ◌∷◌, ◌++◌, ℕ, ◌+◌, ◌≤◌, ◌<◌};
 ghost use Rattle.meaning.specs.Ascii.{space};
 ghost use Rattle.meaning.specs.KindNumbers.{kind_number};
-ghost use Rattle.meaning.specs.Table.{nodes, kind_at, tree_at};
+ghost use Rattle.meaning.specs.Table.{nodes, kind_at, end_at, tree_at};
 ghost use Rattle.meaning.specs.Children.{a};
 ghost use Rattle.meaning.specs.Rules.{Part, separated, child, optional, description, extend, scalar, object_like, union, enum, input_object, rule_of};
 ghost use Rattle.meaning.specs.Layout.{definition_text};
@@ -379,7 +379,7 @@ fn is_short(printer: &Printer, kind: Kind, node: NodeNumber, children: &Children
     requires inside { node.0 < nodes (words printer.now) }
     requires kind { kind_number kind ≡ kind_at (words printer.now) node.0 }
     requires own { ChildrenOf (words printer.now) node.0 children.now }
-    ensures { result ≡ short_at (words printer.now) node.0 }
+    ensures { result ≡ short_at (words printer.now) node.0 (end_at (words printer.now) node.0) }
 {
     let operation = kind == Kind::Operation;
     let query = printer.table.variant(node) == 0;

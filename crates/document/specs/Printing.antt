@@ -70,14 +70,14 @@ module _ (s : Settings) (w p : List ℕ) where
 
     -- measured, it does not fit, or is written
     module _ {m : MutBor (List ℕ)} {q r : Pen} (a : Over m q) (n : m.now ≡ []) (x : Wrote q (document_text s (tree_of w p)) r) where
-      measured : r.at ≡ length (document_text s (tree_of w p))
+      measured : r.at.0 ≡ length (document_text s (tree_of w p))
       measured = (wrote_nowhere a n x (omega (arith, document_fits s settings_fine_lem all_fine))).0
 
-      pub refuses_room : (out : List ℕ) → length out < r.at → (answer 8 0 r.at, out) ≡ printed_document s w p out
+      pub refuses_room : (out : List ℕ) → length out < r.at.0 → (answer 8 0 r.at.0, out) ≡ printed_document s w p out
       refuses_room out h = rw measured (sym (printed_is_written out ∙ written_short (document_text s (tree_of w p)) out (omega (arith, measured, h))))
 
-      pub prints : {out : MutBor (List ℕ)} {q' r' : Pen} → r.at ≤ length out.now → Over out q'
-          → Wrote q' (document_text s (tree_of w p)) r' → {d : List ℕ} → d ≡ r'.out.now → (answer 0 0 r'.at, d) ≡ printed_document s w p out.now
+      pub prints : {out : MutBor (List ℕ)} {q' r' : Pen} → r.at.0 ≤ length out.now → Over out q'
+          → Wrote q' (document_text s (tree_of w p)) r' → {d : List ℕ} → d ≡ r'.out.now → (answer 0 0 r'.at.0, d) ≡ printed_document s w p out.now
       prints {out} h o y e =
           let k : length (document_text s (tree_of w p)) ≤ length out.now = omega (arith, measured, h) in
           let f = wrote_front o y k in

@@ -87,10 +87,10 @@ pub fn print_document(settings: &Settings, table: &Table, out: &mut [u8]) -> Res
     };
     let mut measure = Pen::over(&mut []);
     top_level(&printer, settings, &mut measure);
-    if out.len() < measure.at {
-        return Err(Refusal::Room(Offset(measure.at)));
+    if out.len() < measure.at.0 {
+        return Err(Refusal::Room(measure.at));
     }
     let mut pen = Pen::over(out);
     top_level(&printer, settings, &mut pen);
-    Ok(Offset(pen.at))
+    Ok(pen.at)
 }

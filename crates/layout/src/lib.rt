@@ -125,6 +125,7 @@ fn is_mark(number: u32) -> bool
 
 impl Class {
     // Whether a kind of this number is in the class.
+    #[inline(always)]
     fn holds(self, number: u32) -> bool
         ensures { (variant : ℕ) → result ≡ is_in (meant self) number variant }
     {
@@ -144,6 +145,7 @@ impl Class {
 }
 
 // The text of a node.
+#[inline(always)]
 pub fn name(table: &Table, node: NodeNumber, pen: &mut Pen)
     requires { TextInPool table.now.words.now table.now.pool.now node.0 }
     ensures { Wrote pen.old (text_at table.now.words.now table.now.pool.now node.0) pen.new }
@@ -164,6 +166,7 @@ impl Children {
     }
 
     // Past the next child.
+    #[inline(always)]
     pub fn pass(&mut self, table: &Table)
         requires { InTable table.now.words.now self.old.next.0 }
         ensures { Past table.now.words.now self.old self.new }
@@ -172,6 +175,7 @@ impl Children {
     }
 
     // Whether the next child is there and of the class.
+    #[inline(always)]
     pub fn is_next(&self, table: &Table, class: Class) -> bool
         requires { Within table.now.words.now self.now.end.0 }
         ensures { result ≡ next_is table.now.words.now (meant class) self.now.next.0 self.now.end.0 }

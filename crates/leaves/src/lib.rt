@@ -72,6 +72,7 @@ pub fn serialize_description(
 }
 
 // The alias of a field, if there is one: `alias: `.
+#[inline(always)]
 pub fn alias(table: &Table, children: &mut Children, pen: &mut Pen)
     requires { Ranged table.now.words.now table.now.pool.now children.old.next.0 children.old.end.0 }
     ensures { (s : SettingsSaid) (n : ℕ) → Did table.now.words.now table.now.pool.now s n alias children.old pen.old children.new pen.new }
@@ -84,6 +85,7 @@ pub fn alias(table: &Table, children: &mut Children, pen: &mut Pen)
 }
 
 // The node's text after a token, where it has one: ` name`, ` on Name`.
+#[inline(always)]
 pub fn if_named(table: &Table, node: NodeNumber, before: &[u8], pen: &mut Pen)
     requires { TextInPool table.now.words.now table.now.pool.now node.0 }
     ensures { (s : SettingsSaid) (at : ChildrenSaid) (ps : List Part) → all_plain ps ≡ true → bytes ps ≡ before.now → Did table.now.words.now table.now.pool.now s node.0 (if_named (ps ++ text ∷ [])) at pen.old at pen.new }
@@ -95,6 +97,7 @@ pub fn if_named(table: &Table, node: NodeNumber, before: &[u8], pen: &mut Pen)
 }
 
 // The token, where the node's variant is 1: `!`, ` repeatable`.
+#[inline(always)]
 pub fn if_one(table: &Table, node: NodeNumber, token: &[u8], pen: &mut Pen)
     requires { InTable table.now.words.now node.0 }
     ensures { (p : List ℕ) (s : SettingsSaid) (at : ChildrenSaid) (ps : List Part) → all_plain ps ≡ true → bytes ps ≡ token.now → Did table.now.words.now p s node.0 (if_one ps) at pen.old at pen.new }
@@ -117,6 +120,7 @@ pub fn operation_type(table: &Table, node: NodeNumber, pen: &mut Pen)
     }
 }
 
+#[inline(always)]
 pub fn boolean(table: &Table, node: NodeNumber, pen: &mut Pen)
     requires { InTable table.now.words.now node.0 }
     ensures { (p : List ℕ) (s : SettingsSaid) (at : ChildrenSaid) → Did table.now.words.now p s node.0 boolean at pen.old at pen.new }
@@ -158,6 +162,7 @@ pub fn location(table: &Table, node: NodeNumber, pen: &mut Pen)
 }
 
 // The type of a root operation: `query: Query`.
+#[inline(always)]
 pub fn root_operation(table: &Table, node: NodeNumber, pen: &mut Pen)
     requires { TextInPool table.now.words.now table.now.pool.now node.0 }
     ensures { (s : SettingsSaid) (at : ChildrenSaid) → Did table.now.words.now table.now.pool.now s node.0 (rule_of 25) at pen.old at pen.new }
@@ -167,6 +172,7 @@ pub fn root_operation(table: &Table, node: NodeNumber, pen: &mut Pen)
     layout::name(table, node, pen);
 }
 
+#[inline(always)]
 pub fn variable_value(table: &Table, node: NodeNumber, pen: &mut Pen)
     requires { TextInPool table.now.words.now table.now.pool.now node.0 }
     ensures { (s : SettingsSaid) (at : ChildrenSaid) → Did table.now.words.now table.now.pool.now s node.0 (rule_of 39) at pen.old at pen.new }

@@ -63,7 +63,7 @@ module _ (s : Settings) (d : Bool) (v t : List ℕ) (p : Printable s v) (l : t �
 
   -- `final` is what the lent memory holds once the writer is done
   pub prints : {out : MutBor (List ℕ)} {q r : Pen} {final : List ℕ} → Ok tt ≡ fit_of t (length out.now) → Over out q → Wrote q t r
-      → final ≡ r.out.now → (answer 0 0 r.at, final) ≡ printed_literal s d v out.now
+      → final ≡ r.out.now → (answer 0 0 r.at.0, final) ≡ printed_literal s d v out.now
   prints {out} {q} {r} e a w z =
       let k = has_room t (length out.now) e in
       let f = wrote_front a w k in

@@ -75,8 +75,8 @@ fn check_room(
     }
     let mut pen = Pen::over(&mut []);
     write_chosen(classes, blockwise, value, settings, &mut pen);
-    if room < pen.at {
-        return Err(Refusal::Room(Offset(pen.at)));
+    if room < pen.at.0 {
+        return Err(Refusal::Room(pen.at));
     }
     Ok(())
 }
@@ -104,5 +104,5 @@ pub fn print_literal(
     check_room(&classes, blockwise, value, settings, out.len())?;
     let mut pen = Pen::over(out);
     write_chosen(&classes, blockwise, value, settings, &mut pen);
-    Ok(Offset(pen.at))
+    Ok(pen.at)
 }

@@ -52,7 +52,7 @@ kind_number List = kinds.list
 kind_number ObjectValue = kinds.object_value
 kind_number ObjectField = kinds.object_field
 
--- the kind of this number, where there is one
+-- the kind of this number, where there is one; where there is none, the number
 abbrev pub Named : ℕ → Result Kind NoKind → Type 0
 Named n (Ok k) = kind_number k ≡ n
-Named n (Err e) = kinds.count ≤ n
+Named n (Err e) = (kinds.count ≤ n) × (e.0 ≡ n)

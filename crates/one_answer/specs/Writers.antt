@@ -5,6 +5,7 @@ use Rattle.std.proofs.Common.{ap, ◌∙◌}
 use Rattle.meaning.specs.Settings.{Settings as SettingsSaid}
 use Rattle.meaning.specs.Rules.{Part}
 use Rattle.meaning.specs.Layout.{Child}
+use Rattle.meaning.specs.declared.Offset.{Offset}
 use Rattle.pen.specs.declared.Pen.{Pen}
 use Rattle.pen.specs.Wrote.{Over, Wrote}
 use Rattle.settings.specs.declared.Settings.{Settings}
@@ -21,13 +22,16 @@ pub record SamePen (p q : Pen) : Type 0 where
   pub place : p.at ≡ q.at
   pub memory : p.out.ghost_name ≡ q.out.ghost_name
 
+abbrev offset : ℕ → Offset
+offset i = record { 0 = i }
+
 pub one_start : {out : MutBor (List ℕ)} {p q : Pen} → Over out p → Over out q → SamePen p q
-one_start x y = record { out = one_value x.memory y.memory; place = one_value x.place y.place; memory = one_value x.same y.same }
+one_start x y = record { out = one_value x.memory y.memory; place = ap offset (one_value x.place y.place); memory = one_value x.same y.same }
 
 pub one_wrote : {p : Pen} {t : List ℕ} {q r : Pen} → Wrote p t q → Wrote p t r → SamePen q r
 one_wrote x y =
     let e = one_value x.ink y.ink in
-    record { out = ap (λ (m : List ℕ × ℕ). m.0) e; place = ap (λ (m : List ℕ × ℕ). m.1) e; memory = one_value x.same y.same }
+    record { out = ap (λ (m : List ℕ × ℕ). m.0) e; place = ap (λ (m : List ℕ × ℕ). offset m.1) e; memory = one_value x.same y.same }
 
 abbrev walk_at : ℕ → ℕ → Children
 walk_at i e = record { next = record { 0 = i }; end = record { 0 = e } }

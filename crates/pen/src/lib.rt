@@ -7,53 +7,75 @@ ghost use Rattle.meaning.specs.Settings.{times};
 ghost use Rattle.pen.specs.Put.{put};
 ghost use Rattle.pen.specs.Wrote.{Over, Wrote};
 
+use meaning::Offset;
+
 // The lent memory, and where the next byte goes: no Vec, since there is no heap and the place goes on past the end. Callers use the laws
 // of `Wrote`, and of the fields the place alone.
 #[derive(Drop)]
 pub struct Pen<'a> {
     pub out: &'a mut [u8],
-    pub at: usize,
+    pub at: Offset,
 }
 
 impl<'a> Pen<'a> {
+    #[inline(always)]
     pub fn over(out: &'a mut [u8]) -> Pen<'a>
         ensures { Over out.entry result }
     {
-        Pen { out, at: 0 }
+        Pen { out, at: Offset(0) }
     }
 
+    #[inline(always)]
     pub fn write_byte(&mut self, b: u8)
         ensures { Wrote self.old (b ∷ []) self.new }
     {
-        if self.at < self.out.len() {
-            self.out[self.at] = b;
+        if self.at.0 < self.out.len() {
+            self.out[self.at.0] = b;
         }
-        self.at = self.at.saturating_add(1);
+        self.at.0 = self.at.0.saturating_add(1);
     }
 
-    // Where all fits, what is copied has the length of `bytes`, which a caller mostly knows: a few moves. Measuring copies nothing.
+    // Nothing is written of no bytes, which is common between two escapes.
+    #[inline(always)]
     pub fn write(&mut self, bytes: &[u8])
         ensures { Wrote self.old bytes.now self.new }
     {
         if bytes.is_empty() {
             return;
         }
-        let start = self.at.min(self.out.len());
+        let start = self.at.0.min(self.out.len());
         let room = self.out.len() - start;
         if bytes.len() <= room {
-            self.out[start..start + bytes.len()].copy_from_slice(bytes);
-        } else if 0 < room {
-            self.out[start..].copy_from_slice(&bytes[..room]);
+            store(self.out, start, bytes, bytes.len());
+        } else {
+            store(self.out, start, bytes, room);
         }
-        self.at = self.at.saturating_add(bytes.len());
+        self.at.0 = self.at.0.saturating_add(bytes.len());
     }
 
-    // `bytes`, so many times.
+    // `bytes`, so many times. The place is kept beside the memory meanwhile, where no byte that is written can change it.
     pub fn write_times(&mut self, bytes: &[u8], count: usize)
         ensures { Wrote self.old (times count bytes.now) self.new }
     {
+        let mut own = Pen {
+            out: &mut *self.out,
+            at: self.at,
+        };
         for _ in 0..count {
-            self.write(bytes);
+            own.write(bytes);
         }
+        self.at = own.at;
+    }
+}
+
+// The `n` bytes that there is room for, one by one: the loop becomes a few wide moves where it stands. The library's copy is a call, and asks the
+// C archive for `memmove`.
+#[inline(always)]
+fn store(out: &mut [u8], at: usize, bytes: &[u8], n: usize)
+    requires { n ≡ min (length bytes.now) (length out.old - at) }
+    ensures { out.new ≡ put out.old at bytes.now }
+{
+    for i in 0..n {
+        out[at + i] = bytes[i];
     }
 }

@@ -42,6 +42,7 @@ impl Classes {
         Classes { letters: LETTERS }
     }
 
+    #[inline(always)]
     pub fn class_of(&self, b: u8) -> u8
         ensures { result ≡ class b }
     {
@@ -49,6 +50,7 @@ impl Classes {
     }
 
     // How many bytes at the front stand for themselves.
+    #[inline(always)]
     fn clean_run(&self, value: &[u8]) -> usize
         ensures { result ≡ clean_run value.now }
     {
@@ -59,6 +61,7 @@ impl Classes {
     }
 
     // The place of the next byte to be escaped, at or after `from`, or the end.
+    #[inline(always)]
     pub fn next_escape(&self, value: &[u8], from: usize) -> usize
         ensures { result ≡ from + clean_run (drop from value.now) }
     {
@@ -68,37 +71,46 @@ impl Classes {
         }
     }
 
-    // `\n`, or `\u001F`.
+    // `\n`, or `\u001F`, written at once.
+    #[inline(always)]
     fn write_escape(&self, b: u8, pen: &mut Pen)
         requires { class b ≡ 0 → ⊥ }
         ensures { Wrote pen.old (escaped b) pen.new }
     {
-        pen.write_byte(b'\\');
         match self.class_of(b) {
-            b'u' => {
-                pen.write(b"u00");
-                pen.write_byte(hex_digit(b / 16));
-                pen.write_byte(hex_digit(b % 16));
-            }
-            letter => pen.write_byte(letter),
+            b'u' => pen.write(&[
+                b'\\',
+                b'u',
+                b'0',
+                b'0',
+                hex_digit(b / 16),
+                hex_digit(b % 16),
+            ]),
+            letter => pen.write(&[b'\\', letter]),
         }
     }
 
     // What stands between the quotes.
+    #[inline(always)]
     fn write_body(&self, value: &[u8], pen: &mut Pen)
         ensures { Wrote pen.old (body value.now) pen.new }
     {
+        let mut own = Pen {
+            out: &mut *pen.out,
+            at: pen.at,
+        };
         let mut from = 0;
         // A `loop`: it goes from one byte to be escaped to the next, and counts nothing.
         loop {
             let escape = self.next_escape(value, from);
-            pen.write(&value[from..escape]);
+            own.write(&value[from..escape]);
             if escape == value.len() {
-                return;
+                break;
             }
-            self.write_escape(value[escape], pen);
+            self.write_escape(value[escape], &mut own);
             from = escape + 1;
         }
+        pen.at = own.at;
     }
 
     pub fn write_quoted(&self, value: &[u8], pen: &mut Pen)
@@ -110,6 +122,7 @@ impl Classes {
     }
 }
 
+#[inline(always)]
 fn hex_digit(n: u8) -> u8
     requires { n < 16 }
     ensures { result ≡ hex_digit n }

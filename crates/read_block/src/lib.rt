@@ -255,7 +255,7 @@ fn store(text: &[u8], n: usize, out: &mut [u8]) -> usize
 {
     let mut pen = Pen::over(out);
     write_text(&mut pen, text, n);
-    pen.at
+    pen.at.0
 }
 
 // Writes the text where there is room. It is measured first, unless its length shows that it fits.

@@ -127,7 +127,7 @@ fn store(classes: &Classes, text: &[u8], out: &mut [u8]) -> Option<usize>
 {
     let mut pen = Pen::over(out);
     write_value(classes, text, &mut pen)?;
-    Some(pen.at)
+    Some(pen.at.0)
 }
 
 // Reads a text that begins with a quote as one quoted string into `out`. It is stored nowhere first, which decides and measures, so

@@ -103,7 +103,7 @@ module _ {w p : List ℕ} {s : Settings} {before : List ℕ} {c : Class} {l : �
 -- ---- lists made of it
 
 infixr 30 ◌then◌
-◌then◌ : {w p u : List ℕ} {rs : List Child} {at : Children} {o : Pen} {b : Children} {q : Pen} {v : List ℕ} {ks : List Child}
+pub ◌then◌ : {w p u : List ℕ} {rs : List Child} {at : Children} {o : Pen} {b : Children} {q : Pen} {v : List ℕ} {ks : List Child}
     {r : Children} {z : Pen} → Walked w p u rs at o b q → Walked w p v ks b q r z → Walked w p (u ++ v) ks at o r z
 ◌then◌ x y = record { wrote = x.wrote ⨾ y.wrote; left = y.left; onward = λ {b} q. y.onward (x.onward q); end = y.end ∙ x.end; order = omega (arith, x.order, y.order) }
 

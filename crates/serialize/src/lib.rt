@@ -25,6 +25,7 @@ use settings::Settings;
 
 // The next child, whatever its kind.
 #[cycle(tree)]
+#[inline(always)]
 pub fn one(printer: &Printer, children: &mut Children, settings: &Settings, pen: &mut Pen)
     requires { Jobs (words printer.now) (pool printer.now) children.old settings.now.level }
     ensures { Walked (words printer.now) (pool printer.now) (first_said (said settings.now) (ahead printer.now children.old)) (rest child_in (ahead printer.now children.old)) children.old pen.old children.new pen.new }
@@ -37,6 +38,7 @@ pub fn one(printer: &Printer, children: &mut Children, settings: &Settings, pen:
 
 // The next children of the class, each after the gap.
 #[cycle(tree)]
+#[inline(always)]
 pub fn each(
     printer: &Printer,
     class: Class,
@@ -103,6 +105,7 @@ pub fn curly(
 
 // A space and the children of the class in braces, where there are any.
 #[cycle(tree)]
+#[inline(always)]
 pub fn opt_braces(
     printer: &Printer,
     class: Class,
@@ -121,6 +124,7 @@ pub fn opt_braces(
 
 // Arguments or variables in parentheses, on one line, where there are any.
 #[cycle(tree)]
+#[inline(always)]
 pub fn arguments(
     printer: &Printer,
     class: Class,
@@ -139,6 +143,7 @@ pub fn arguments(
 
 // The directives, each after a space. Mostly there is none: the test stands apart from the walk, so that a caller is spared the call.
 #[cycle(tree)]
+#[inline(always)]
 pub fn directives(printer: &Printer, children: &mut Children, settings: &Settings, pen: &mut Pen)
     requires { Jobs (words printer.now) (pool printer.now) children.old settings.now.level }
     ensures { Walked (words printer.now) (pool printer.now) (each (ascii " ") (said settings.now) (run child_in (a 19) (ahead printer.now children.old))) (past child_in (a 19) (ahead printer.now children.old)) children.old pen.old children.new pen.new }
@@ -163,6 +168,7 @@ fn signature(printer: &Printer, children: &mut Children, settings: &Settings, pe
 
 // The same, where there are any.
 #[cycle(tree)]
+#[inline(always)]
 pub fn arguments_def(printer: &Printer, children: &mut Children, settings: &Settings, pen: &mut Pen)
     requires { Jobs (words printer.now) (pool printer.now) children.old (settings.now.level + 1) }
     ensures { (n : ℕ) → Did (words printer.now) (pool printer.now) (said settings.now) n argument_definitions children.old pen.old children.new pen.new }
@@ -176,6 +182,7 @@ pub fn arguments_def(printer: &Printer, children: &mut Children, settings: &Sett
 
 // ` = value`, where there is a value.
 #[cycle(tree)]
+#[inline(always)]
 fn default(printer: &Printer, children: &mut Children, settings: &Settings, pen: &mut Pen)
     requires { Jobs (words printer.now) (pool printer.now) children.old settings.now.level }
     ensures { (n : ℕ) → Did (words printer.now) (pool printer.now) (said settings.now) n default_value children.old pen.old children.new pen.new }
@@ -187,6 +194,7 @@ fn default(printer: &Printer, children: &mut Children, settings: &Settings, pen:
 }
 
 #[cycle(tree)]
+#[inline(always)]
 fn directive(
     printer: &Printer,
     node: NodeNumber,
@@ -210,6 +218,7 @@ fn directive(
 
 // An argument, or a field of an object value.
 #[cycle(tree)]
+#[inline(always)]
 fn argument(
     printer: &Printer,
     node: NodeNumber,
@@ -226,6 +235,7 @@ fn argument(
 }
 
 #[cycle(tree)]
+#[inline(always)]
 fn variable(
     printer: &Printer,
     node: NodeNumber,
@@ -246,6 +256,7 @@ fn variable(
 
 // An InputValueDefinition.
 #[cycle(tree)]
+#[inline(always)]
 fn input(
     printer: &Printer,
     node: NodeNumber,
@@ -266,6 +277,7 @@ fn input(
 
 // A FieldDefinition.
 #[cycle(tree)]
+#[inline(always)]
 fn field_def(
     printer: &Printer,
     node: NodeNumber,
@@ -285,6 +297,7 @@ fn field_def(
 }
 
 #[cycle(tree)]
+#[inline(always)]
 fn enum_value(
     printer: &Printer,
     node: NodeNumber,
@@ -301,6 +314,7 @@ fn enum_value(
 }
 
 #[cycle(tree)]
+#[inline(always)]
 fn field(
     printer: &Printer,
     node: NodeNumber,
@@ -325,6 +339,7 @@ fn field(
 }
 
 #[cycle(tree)]
+#[inline(always)]
 fn spread(
     printer: &Printer,
     node: NodeNumber,
@@ -341,6 +356,7 @@ fn spread(
 }
 
 #[cycle(tree)]
+#[inline(always)]
 fn inline(
     printer: &Printer,
     node: NodeNumber,
@@ -359,6 +375,7 @@ fn inline(
 }
 
 #[cycle(tree)]
+#[inline(always)]
 fn list(printer: &Printer, children: &mut Children, settings: &Settings, pen: &mut Pen)
     requires { Jobs (words printer.now) (pool printer.now) children.old (settings.now.level + 1) }
     ensures { (n : ℕ) → Did (words printer.now) (pool printer.now) (said settings.now) n (rule_of 42) children.old pen.old children.new pen.new }
@@ -367,6 +384,7 @@ fn list(printer: &Printer, children: &mut Children, settings: &Settings, pen: &m
 }
 
 #[cycle(tree)]
+#[inline(always)]
 fn object(printer: &Printer, children: &mut Children, settings: &Settings, pen: &mut Pen)
     requires { Jobs (words printer.now) (pool printer.now) children.old (settings.now.level + 1) }
     ensures { (n : ℕ) → Did (words printer.now) (pool printer.now) (said settings.now) n (rule_of 43) children.old pen.old children.new pen.new }

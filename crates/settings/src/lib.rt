@@ -59,6 +59,7 @@ impl<'a> Settings<'a> {
     }
 
     // LF, then the prefix once per level, whether line breaks are on or off.
+    #[inline(always)]
     pub fn line_break(&self, pen: &mut Pen)
         ensures { Wrote pen.old (line_feed ∷ times self.now.level self.now.prefix.now) pen.new }
     {
@@ -66,6 +67,7 @@ impl<'a> Settings<'a> {
         pen.write_times(self.prefix, self.level);
     }
 
+    #[inline(always)]
     pub fn new_line(&self, pen: &mut Pen)
         ensures { Wrote pen.old (new_line (said self.now)) pen.new }
     {
@@ -74,6 +76,7 @@ impl<'a> Settings<'a> {
         }
     }
 
+    #[inline(always)]
     pub fn new_line_or_space(&self, pen: &mut Pen)
         ensures { Wrote pen.old (new_line_or_space (said self.now)) pen.new }
     {

@@ -1,6 +1,7 @@
 -- A kind is told by its number.
-use Rattle.std.specs.Prelude.{◌≡◌, refl, ℕ, Bool, true, false, eqb, if◌then◌else◌}
-use Rattle.std.proofs.Common.{sym, ap, ◌∙◌, eq-eqb, ne_eqb}
+use Rattle.std.specs.Prelude.{◌≡◌, refl, ℕ, ◌<◌, Bool, true, false, eqb, if◌then◌else◌}
+use Rattle.std.proofs.Common.{sym, ap, ◌∙◌, arith, eq-eqb, ne_eqb}
+use Rattle.meaning.specs.Kind.{count}
 use Rattle.meaning.specs.KindNumbers.{kind_number}
 use Rattle.meaning.specs.declared.kind.Kind.{Kind}
 use Rattle.meaning.specs.declared.kind.Kind.TheVariants.{Document, Operation, Fragment, DirectiveDefinition, Schema, Scalar, Object, Interface, Union, Enum, InputObject, ExtendSchema, ExtendScalar, ExtendObject, ExtendInterface, ExtendUnion, ExtendEnum, ExtendInputObject, Description, Directive, Argument, VariableDefinition, InputValueDefinition, FieldDefinition, EnumValueDefinition, RootOperation, InterfaceName, UnionMember, Location, Field, Alias, FragmentSpread, InlineFragment, NamedType, ListType, Null, Boolean, EnumValue, String, Variable, Float, Int, List, ObjectValue, ObjectField}
@@ -102,6 +103,9 @@ read_back ObjectField = refl
 
 pub one_kind : (j k : Kind) → kind_number j ≡ kind_number k → j ≡ k
 one_kind j k e = sym (read_back j) ∙ ap kind_of e ∙ read_back k
+
+pub kind_is_low : (k : Kind) → kind_number k < count
+kind_is_low k = grind arith
 
 -- a test for the same kind is one for the same number
 pub same_kind : (j k : Kind) (b : Bool) → (b ≡ true → j ≡ k) → (b ≡ false → (j ≡ k → ⊥)) → b ≡ eqb (kind_number j) (kind_number k)

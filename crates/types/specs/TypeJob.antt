@@ -77,14 +77,14 @@ module _ {w p : List ℕ} (s : Settings) {i : ℕ} {o a q : Pen} where
   unfolding rule_of
   named_type_lem k x y = node_written (ap rule_of k) (record { next = refl; end = refl }) (did_name x ⨾ y)
 
-  pub list_type_lem : {b c : Pen} → (j : TypeJob w p i) → kind_at w i ≡ Kind.list_type
+  pub list_type_lem : {b c : Pen} → Ranged w p (i + 1) (end_at w i) → i + 1 < end_at w i → kind_at w i ≡ Kind.list_type
       → Wrote o (ascii "[") a → Wrote a (node_text (tree_at w p (i + 1)) s) b → Wrote b (ascii "]") c
       → Did w p s i non_null (passed w i) c (passed w i) q → Wrote o (node_text (tree_at w p i) s) q
   unfolding rule_of part_text part_rest
-  list_type_lem {b} j k x y u v =
+  list_type_lem {b} r h k x y u v =
       node_written (ap rule_of k) (record { next = refl; end = refl }) (did_tokens (token "[") refl x ⨾ did_one ⨾ did_tokens (token "]") refl u ⨾ v)
     where
       did_one : Did w p s i (child type) (start w i) a (passed w i) b
       did_one =
           did_part (one type) refl
-          (one_printed s j.shaped (children_range j.shaped i j.inside) (inner_there j k) y (record { next = refl; end = refl }))
+          (one_printed s r.shaped r.range h y (record { next = refl; end = refl }))

@@ -1,6 +1,7 @@
 -- `definitions::serialize_definition` meets its contract: the selections alone, or the parts of the kind's rule.
 use Rattle.std.proofs.Common.{arith, sym, ◌∙◌, ◌≡◌, ◌&&◌, false, inl, inr}
 use Rattle.base.specs.Bools.{and_both}
+use Rattle.meaning.specs.Table.{end_at}
 use Rattle.layout.specs.Jobs.{in_table, children_jobs}
 use Rattle.layout.specs.Read.{words}
 use Rattle.serialize.specs.Parts.{parts_of_lem}
@@ -28,7 +29,7 @@ returns-then-is_short c =
 
 pub returns-else-first : goal.returns-else-first
 returns-else-first c =
-    let long : c.args.first && short_at (words c.args.printer.now) c.args.node.0 ≡ false =
+    let long : c.args.first && short_at (words c.args.printer.now) c.args.node.0 (end_at (words c.args.printer.now) c.args.node.0) ≡ false =
     elim c.else-first.branch [
       | else-first-via-then-first+else-is_short w ↦ no_shorthand _ _ (inr (sym w.is_short.ensures ∙ w.if-is_short.false))
       | else-first-via-else-first w ↦ no_shorthand _ _ (inl w.if-first.false)

@@ -12,7 +12,7 @@ use Rattle.read_quoted.proofs.store.Goals as goal
 -- m is what the memory holds in the end
 stored : (s : List ℕ) {out : MutBor (List ℕ)} {p q : Pen} (m : List ℕ) → Over out p → length s ≤ last
     → Value (characters quoted_front 0 s) p q → (q.out.ghost_name ≡ p.out.ghost_name → m ≡ q.out.now)
-    → Stored (characters quoted_front 0 s) out.now m q.at
+    → Stored (characters quoted_front 0 s) out.now m q.at.0
 stored s m o k v a =
     record {
       value = v.value;

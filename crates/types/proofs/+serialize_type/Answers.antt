@@ -4,7 +4,7 @@ use Rattle.std.proofs.lemmas.Bool.{eqb-false}
 use Rattle.meaning.specs.Rules.{token}
 use Rattle.meaning.specs.declared.kind.Kind.TheVariants.{NamedType}
 use Rattle.table.specs.Kinds.{same_kind}
-use Rattle.types.specs.TypeJob.{start, passed, node_of, text_of, known_kind, is_list, inner_job, named_type_lem, list_type_lem}
+use Rattle.types.specs.TypeJob.{start, passed, node_of, text_of, known_kind, is_list, inner_range, inner_there, inner_job, named_type_lem, list_type_lem}
 use Rattle.types.proofs.+serialize_type.Goals.{then-eq, else-eq}
 use Rattle.types.proofs.+serialize_type.Goals as goal
 
@@ -35,6 +35,6 @@ returns t c = λ s.
           (rw w.pen-is at (c.if_one.ensures c.args.table.now.pool.now s (start c.args.table.now.words.now c.args.node.0) (token "!") refl refl))
       | else-eq w ↦
           let list = is_list c.requires (λ z. eqb-false _ 33 (sym told ∙ w.if-eq.false) (c.kind.ensures ∙ z)) in
-          list_type_lem s c.requires list w.write.ensures (w.serialize_type.ensures s) w.write-else-eq.ensures
+          list_type_lem s (inner_range c.requires list) (inner_there c.requires list) list w.write.ensures (w.serialize_type.ensures s) w.write-else-eq.ensures
           (rw w.pen-is at (c.if_one.ensures c.args.table.now.pool.now s (passed c.args.table.now.words.now c.args.node.0) (token "!") refl refl))
     ]

@@ -13,10 +13,10 @@ pub returns-in-Ok : goal.returns-in-Ok
 returns-in-Ok c = λ v. rw c.in-Selection.is (c.is_selection.ensures ∙ ap is_selection c.in-Ok.ensures ∙ selection_tells _ v)
 
 pub returns-in-Err : goal.returns-in-Err
-returns-in-Err c = λ v. rw c.in-Selection.is (no_selection _ v c.in-Err.ensures)
+returns-in-Err c = λ v. rw c.in-Selection.is (no_selection _ v c.in-Err.ensures.0)
 
 pub returns-in-Ok-try_from : goal.returns-in-Ok-try_from
 returns-in-Ok-try_from c = λ v. rw c.in-Value.is (c.is_value.ensures ∙ ap is_value c.in-Ok-try_from.ensures ∙ value_tells _ v)
 
 pub returns-in-Err-try_from : goal.returns-in-Err-try_from
-returns-in-Err-try_from c = λ v. rw c.in-Value.is (no_value _ v c.in-Err-try_from.ensures)
+returns-in-Err-try_from c = λ v. rw c.in-Value.is (no_value _ v c.in-Err-try_from.ensures.0)

@@ -1,11 +1,14 @@
 -- What there is room for is stored; the place goes on by all of `bytes`.
-use Rattle.std.proofs.Common.{◌≡◌, List, ℕ, [], ◌∷◌, eqb-true, sym, refl, ◌∙◌, ◌+◌, ◌-◌, arith, length, take, length-take-le, take_all}
-use Rattle.std.proofs.lemmas.Slice.{put_mid-paste}
-use Rattle.std.proofs.lemmas.List.Edits.{paste_all}
-use Rattle.pen.specs.Put.{put_cut, put_past}
+use Rattle.std.specs.Prelude.{◌≡◌, List, [], ◌∷◌, ℕ, min, length}
+use Rattle.std.proofs.Common.{eqb-true, sym, ◌∙◌, refl, arith}
+use Rattle.pen.specs.Put.{put, put_end}
 use Rattle.pen.specs.Wrote.{ink_put, wrote_as, wrote_none}
-use Rattle.pen.proofs.Pen.write.Goals.{then-bytes-room, else-bytes-room+then-room-gt0, else-bytes-room+else-room-gt0}
+use Rattle.pen.proofs.Pen.write.Goals.{then-bytes-room, else-bytes-room}
 use Rattle.pen.proofs.Pen.write.Goals as goal
+
+-- what is stored from the place, or from the end where the place is past it
+stored_from : (d t : List ℕ) (i : ℕ) {s : ℕ} {e : List ℕ} → s ≡ min i (length d) → e ≡ put d s t → e ≡ put d i t
+stored_from d t i {s} k h = let same : put d s t ≡ put d i t = rw k (put_end d i t) in h ∙ same
 
 empty : (t : List ℕ) → length t ≡ 0 → t ≡ []
 empty [] h = refl
@@ -18,24 +21,11 @@ pub returns : goal.returns
 returns c =
     let p = c.args.self.now in
     let t = c.args.bytes.now in
-    let s = c.min-start.result in
-    let room = length p.out.now - s in
     elim c.if-bytes-room.branch [
       | then-bytes-room w ↦
-          let whole : take (length t) t ≡ t = take_all _ _ (omega arith) in
-          let stored =
-          put_mid-paste s (s + length t - s) p.out.now _ _ (length t) w.copy_from_slice.ensures.after (omega arith) refl
-          ∙ paste_all _ _ _ (length t) refl
-          ∙ rw whole at (put_cut p.out.now p.at t s (length t) c.min-start.ensures (omega (arith, w.if-bytes-room.true))) in
-          rw (c.saturating_add-self.ensures, w.self-is) record { ink = rw stored (ink_put t p.out.now p.at (omega arith) (omega arith)); same = refl }
-      | else-bytes-room+then-room-gt0 w ↦
-          let fits = length-take-le room t (omega (arith, w.if-bytes-room.false)) in
-          let stored =
-          put_mid-paste s room p.out.now _ _ room w.copy_from_slice-then-room-gt0.ensures.after refl (sym fits)
-          ∙ paste_all _ _ _ room (sym fits)
-          ∙ put_cut p.out.now p.at t s room c.min-start.ensures (omega (arith, w.if-bytes-room.false)) in
-          rw (c.saturating_add-self.ensures, w.self-is) record { ink = rw stored (ink_put t p.out.now p.at (omega arith) (omega arith)); same = refl }
-      | else-bytes-room+else-room-gt0 w ↦
-          let none = put_past t p.out.now p.at (omega (arith, c.min-start.ensures, w.if-room-gt0.false)) in
-          rw (c.saturating_add-self.ensures, w.self-is) record { ink = rw none at (ink_put t p.out.now p.at (omega arith) (omega arith)); same = refl }
+          let stored = stored_from p.out.now t p.at.0 c.min-start.ensures w.store.ensures in
+          rw (c.saturating_add-self.ensures, w.self-is) record { ink = rw stored (ink_put t p.out.now p.at.0 (omega arith) (omega arith)); same = refl }
+      | else-bytes-room w ↦
+          let stored = stored_from p.out.now t p.at.0 c.min-start.ensures w.store-else-bytes-room.ensures in
+          rw (c.saturating_add-self.ensures, w.self-is) record { ink = rw stored (ink_put t p.out.now p.at.0 (omega arith) (omega arith)); same = refl }
     ]

@@ -5,4 +5,4 @@ use Rattle.pen.specs.Wrote.{Left}
 use Rattle.pen.proofs.Pen.write_times.Given as goal
 
 abbrev pub invariant-loop : goal.invariant-loop
-invariant-loop l = Left l.initial.self (times l.count l.bytes) l.self (times (l.count - l.counter) l.bytes)
+invariant-loop l = Left l.initial.own (times l.count l.bytes) l.own (times (l.count - l.counter) l.bytes)

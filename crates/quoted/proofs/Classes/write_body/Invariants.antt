@@ -4,8 +4,8 @@ use Rattle.meaning.specs.Quoted.{body}
 use Rattle.pen.specs.Wrote.{Left}
 use Rattle.quoted.proofs.Classes.write_body.Given as goal
 
-abbrev pub invariant-loop-from : goal.invariant-loop-from
-invariant-loop-from l = (l.from ≤ length l.value) × Left l.initial.pen (body l.value) l.pen (body (drop l.from l.value))
+abbrev pub invariant-loop-escape : goal.invariant-loop-escape
+invariant-loop-escape l = (l.from ≤ length l.value) × Left l.initial.own (body l.value) l.own (body (drop l.from l.value))
 
-abbrev pub decreases-loop-from : goal.decreases-loop-from
-decreases-loop-from l = length l.value - l.from
+abbrev pub decreases-loop-escape : goal.decreases-loop-escape
+decreases-loop-escape l = length l.value - l.from
