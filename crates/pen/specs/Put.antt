@@ -59,14 +59,6 @@ put_last d i t h = go (dec_le i last)
     go (yes k) = let e : min i last ≡ i = omega arith in rw e
     go (no k) = put_past t d (min i last) (omega arith) ∙ sym (put_past t d i (omega arith))
 
--- nor does one past the end, as the end does
-pub put_end : (d : List ℕ) (i : ℕ) (t : List ℕ) → put d (min i (length d)) t ≡ put d i t
-put_end d i t = go (dec_le i (length d))
-  where
-    go : Dec (i ≤ length d) → put d (min i (length d)) t ≡ put d i t
-    go (yes k) = let e : min i (length d) ≡ i = omega arith in rw e
-    go (no k) = put_past t d (min i (length d)) (omega arith) ∙ sym (put_past t d i (omega arith))
-
 -- a text stored byte by byte: nothing yet, one byte more, and the end, of the text or of the list
 pub store_none : (d : List ℕ) (i : ℕ) (t : List ℕ) → put d (i + 0) (drop 0 t) ≡ put d i t
 store_none d i t = rw add-zero

@@ -35,7 +35,8 @@ impl<'a> Pen<'a> {
         self.at.0 = self.at.0.saturating_add(1);
     }
 
-    // Nothing is written of no bytes, which is common between two escapes.
+    // Between two escapes there is mostly nothing to write, and measuring stores nothing. Where all fits, what is stored has the length of
+    // `bytes`, which a caller mostly knows: a few moves.
     #[inline(always)]
     pub fn write(&mut self, bytes: &[u8])
         ensures { Wrote self.old bytes.now self.new }
@@ -43,12 +44,13 @@ impl<'a> Pen<'a> {
         if bytes.is_empty() {
             return;
         }
-        let start = self.at.0.min(self.out.len());
-        let room = self.out.len() - start;
-        if bytes.len() <= room {
-            store(self.out, start, bytes, bytes.len());
-        } else {
-            store(self.out, start, bytes, room);
+        if self.at.0 < self.out.len() {
+            let room = self.out.len() - self.at.0;
+            if bytes.len() <= room {
+                store(self.out, self.at.0, bytes, bytes.len());
+            } else {
+                store(self.out, self.at.0, bytes, room);
+            }
         }
         self.at.0 = self.at.0.saturating_add(bytes.len());
     }

@@ -220,11 +220,11 @@ pub fn fill(out: &mut [u8], byte: u8)
     out.fill(byte);
 }
 
-// Whether `s` holds `byte` throughout.
+// Whether `s` holds `byte` throughout. There is no early exit, so that many bytes are compared at once.
 pub fn is_filled(s: &[u8], byte: u8) -> bool
     ensures { result ≡ all_are byte s.now }
 {
-    s.iter().all(|b| *b == byte)
+    s.iter().fold(true, |same, b| same & (*b == byte))
 }
 
 // Whether `s` begins with these bytes and holds `byte` past them.

@@ -1,5 +1,5 @@
 -- What is left to store is the pairs from i on, at i.
-use Rattle.std.proofs.Common.{◌≡◌, ◌≤◌, ◌<◌, ◌/◌, List, ℕ, [], ◌++◌, length, take, drop, ◌∙◌, sym, ap, arith, rules, length-take-le, drop_of_length-le, append-nil}
+use Rattle.std.proofs.Common.{◌≡◌, ◌/◌, List, ℕ, [], ◌++◌, length, take, drop, ◌∙◌, sym, ap, arith, rules, length-take-le, drop_of_length-le, append-nil}
 use Rattle.vector_lines.specs.Hex.{pairs}
 use Rattle.vector_lines.proofs.Hex.{pairs_length, store_more, store_end, store_whole}
 use Rattle.vector_lines.proofs.store_pairs.Goals as goal

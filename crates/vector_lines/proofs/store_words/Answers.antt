@@ -1,5 +1,5 @@
 -- What is left to store is the words from `at` on, at i; each part of them is a word.
-use Rattle.std.proofs.Common.{◌≡◌, ◌∙◌, List, ℕ, [], ◌++◌, length, ◌<◌, take, drop, sym, ap, arith, rules, length-take-le, drop_of_length-le, append-nil}
+use Rattle.std.proofs.Common.{◌≡◌, ◌∙◌, List, ℕ, [], ◌++◌, ◌<◌, take, drop, sym, ap, arith, rules, length-take-le, drop_of_length-le, append-nil}
 use Rattle.vector_lines.specs.Words.{is_word, word_of}
 use Rattle.vector_lines.proofs.Commas.{word_there, word_here, words_more, store_word, store_none, store_all}
 use Rattle.vector_lines.proofs.store_words.Goals as goal

@@ -1,14 +1,10 @@
--- What there is room for is stored; the place goes on by all of `bytes`.
-use Rattle.std.specs.Prelude.{◌≡◌, List, [], ◌∷◌, ℕ, min, length}
+-- What there is room for is stored, and past the end nothing; the place goes on by all of `bytes`.
+use Rattle.std.specs.Prelude.{◌≡◌, List, [], ◌∷◌, ℕ, length}
 use Rattle.std.proofs.Common.{eqb-true, sym, ◌∙◌, refl, arith}
-use Rattle.pen.specs.Put.{put, put_end}
+use Rattle.pen.specs.Put.{put_past}
 use Rattle.pen.specs.Wrote.{ink_put, wrote_as, wrote_none}
-use Rattle.pen.proofs.Pen.write.Goals.{then-bytes-room, else-bytes-room}
+use Rattle.pen.proofs.Pen.write.Goals.{then-self+then-bytes-room, then-self+else-bytes-room, else-self}
 use Rattle.pen.proofs.Pen.write.Goals as goal
-
--- what is stored from the place, or from the end where the place is past it
-stored_from : (d t : List ℕ) (i : ℕ) {s : ℕ} {e : List ℕ} → s ≡ min i (length d) → e ≡ put d s t → e ≡ put d i t
-stored_from d t i {s} k h = let same : put d s t ≡ put d i t = rw k (put_end d i t) in h ∙ same
 
 empty : (t : List ℕ) → length t ≡ 0 → t ≡ []
 empty [] h = refl
@@ -21,11 +17,15 @@ pub returns : goal.returns
 returns c =
     let p = c.args.self.now in
     let t = c.args.bytes.now in
-    elim c.if-bytes-room.branch [
-      | then-bytes-room w ↦
-          let stored = stored_from p.out.now t p.at.0 c.min-start.ensures w.store.ensures in
-          rw (c.saturating_add-self.ensures, w.self-is) record { ink = rw stored (ink_put t p.out.now p.at.0 (omega arith) (omega arith)); same = refl }
-      | else-bytes-room w ↦
-          let stored = stored_from p.out.now t p.at.0 c.min-start.ensures w.store-else-bytes-room.ensures in
-          rw (c.saturating_add-self.ensures, w.self-is) record { ink = rw stored (ink_put t p.out.now p.at.0 (omega arith) (omega arith)); same = refl }
+    elim c.if-self.branch [
+      | then-self+then-bytes-room w ↦
+          rw (c.saturating_add-self.ensures, w.self-is)
+          record { ink = rw w.store.ensures (ink_put t p.out.now p.at.0 (omega arith) (omega arith)); same = refl }
+      | then-self+else-bytes-room w ↦
+          rw (c.saturating_add-self.ensures, w.self-is)
+          record { ink = rw w.store-else-bytes-room.ensures (ink_put t p.out.now p.at.0 (omega arith) (omega arith)); same = refl }
+      | else-self w ↦
+          let none = put_past t p.out.now p.at.0 (omega (arith, w.if-self.false)) in
+          rw (c.saturating_add-self.ensures, w.self-is)
+          record { ink = rw none at (ink_put t p.out.now p.at.0 (omega arith) (omega arith)); same = refl }
     ]
